@@ -4,9 +4,12 @@ script.
     tools/every FILE STATES [FROM [DEPTH]] [--after STEPS SEED | --after NAME [SEED]]
     tools/every FILE STATES [FROM [DEPTH]] --until WORDS
     tools/every FILE STATES [FROM [DEPTH]] --trace N
+    tools/every --any FILE [STATES [FROM]] [--after ..]
+    tools/every --report FILE [STATES [FROM]] [--after ..]
 
 The lines are those of the program's command `every`, or of `against` where there is a menu; with --after it searches
-what comes after these steps of `run`. N is a line's number. A way is made again by dev/reference, of which nothing is
+what comes after these steps of `run`. With --any it is of every program of the monitor's children, by a menu of its own;
+a report says more of the monitor. N is a line's number. A way is made again by dev/reference, of which nothing is
 proved, and what it shows at its end is compared with the line.
 """
 
@@ -25,7 +28,7 @@ from common.machine.image import Image
 from common.machine.model import World
 from debugger import building, client, rules, searching, sources
 from debugger.searching import AGAIN, END, Asked, Line, Search
-from . import asmx, trace, ways, why
+from . import asmx, every_program, trace, ways, why
 from .ways import Menu, Way
 
 MOST, MOST_STATES = 10_000_000, 100_000_000
@@ -188,8 +191,8 @@ def main() -> None:
         epilog="A way is made again by the reference, of which nothing is proved. The status is 1 where that differs "
                "from the program, or a rule is broken.")
     calling.take_image(parser)
-    parser.add_argument("states", metavar="STATES", type=calling.within(1, MOST_STATES, "STATES"),
-                        help="room for that many states")
+    parser.add_argument("states", metavar="STATES", nargs="?", type=calling.within(1, MOST_STATES, "STATES"),
+                        help=f"room for that many states; with --any and --report {every_program.STATES} without it")
     parser.add_argument("first", metavar="FROM", nargs="?", type=calling.within(0, MOST, "FROM"),
                         help="no line comes before that many turns; without it 0")
     parser.add_argument("depth", metavar="DEPTH", nargs="?", type=calling.within(1, MOST, "DEPTH"),
@@ -207,6 +210,8 @@ def main() -> None:
     one = parser.add_mutually_exclusive_group()
     one.add_argument("--trace", metavar="N", help="the way to line N, choice by choice")
     one.add_argument("--script", metavar="N", help="the way to line N as a script for ./pip script")
+    one.add_argument("--any", action="store_true", help="whether it holds whatever the children's programs are")
+    one.add_argument("--report", action="store_true", help="the same, and whether each child's turn comes")
     calling.take_program(parser)
     calling.started(parser, work)
 
@@ -257,7 +262,14 @@ def after_of(words: list[str] | None, data: bytes, source: str | None) -> After:
 
 
 def work(given: argparse.Namespace) -> int | None:
+    if given.states is None and not (given.any or given.report):
+        raise Failed("STATES is missing")
+    given.states = given.states or every_program.STATES
     asked = given_of(given)
+    if given.any or given.report:
+        tell = every_program.told_of if given.any else every_program.report
+        print("\n".join(tell(given.program, asked.asked, asked.names)))
+        return 0
     number = given.trace or given.script
     search = searching.kept(searching.kept_at(given.program, asked.asked)) if number else None
     search = search or searching.searched(given.program, asked.asked)

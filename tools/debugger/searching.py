@@ -31,6 +31,7 @@ from .rules import Rule
 LINE = re.compile(r"(\d+) (\d+|-) ([^:]+): ?(.*)")
 END = re.compile(r"states (\d+) (?:depth (\d+) (closed|stopped|found|ended)|(within) (\d+))")
 AGAIN = re.compile(r"(again|comes) (.+): (yes|within|no|unknown)((?: [^ ]+)*)")
+AWAY = re.compile(r"away (yes|no|unknown)((?: [^ ]+)*?)(?: : (\d))?")
 REASONS = {3: "its input can't be read", 4: "its output can't be written", 5: "no memory was found: give fewer STATES"}
 NO_MEMORY = 5
 MOST_KEPT = 64           # searches whose ways are kept
@@ -95,7 +96,7 @@ def read(lines: list[str]) -> Search:
     end = next((at for at, line in enumerate(lines) if END.fullmatch(line)), 0)
     found = [LINE.fullmatch(line) for line in lines[1:end]]
     again = lines[end + 1:]
-    if not end or None in found or not all(map(AGAIN.fullmatch, again)):
+    if not end or None in found or not all(AGAIN.fullmatch(line) or AWAY.fullmatch(line) for line in again):
         raise Failed("what the program wrote is no text of 'every'")
     return Search(lines[0], [Line(int(x[1]), x[2], x[3], x[4]) for x in found if x], lines[end], again)
 

@@ -12,12 +12,14 @@ from typing import NamedTuple
 from . import script
 from .every import Label, Moment, Moments, label_of
 from .image import Image
-from .model import ROOT, Done, Running, World
+from .model import ROOT, WORDS as WORDS_OF_PAGE, Done, Running, World
 from .runs import Turn
 from .script import BadLine
 
 EACH, AGAIN, COMES = b"each", b"again", b"comes"
 ASKS = (AGAIN, COMES)                                   # the words before a label
+LEFT_OUT = {b"any": ((script.WORD,), 64), b"free": ((script.WORD,), 256),    # the limits of numbers, and of lines
+            b"seen": ((script.WORD, WORDS_OF_PAGE), 256)}
 WORDS = (b"ld", b"lb", b"st", b"sb", b"trap", b"call")       # the lines of scripts that are deeds
 MOST_DEEDS, MOST_LABELS, MOST_LINES = 1024, 16, 65536    # of a menu
 
@@ -37,12 +39,13 @@ class Deed(NamedTuple):
 
 
 class Menu(NamedTuple):
-    """What partitions may do, the labels of which it is asked whether they can come again, and those of which it is
-    asked whether they come."""
+    """What partitions may do, the labels of which it is asked whether they can come again, those of which it is asked
+    whether they come, and the numbers of lines that leave words out."""
 
     deeds: list[Deed]
     again: list[str]
     comes: list[str]
+    out: dict[bytes, list[tuple[int, ...]]]
 
 
 # The text of a menu
@@ -50,13 +53,14 @@ class Menu(NamedTuple):
 
 def menu_of(data: bytes) -> Menu:
     """The menu that a text is."""
-    menu = Menu([], [], [])
+    menu = Menu([], [], [], {word: [] for word in LEFT_OUT})
     for place, line in enumerate(script.lines(data), 1):
         if len(line) > script.LONGEST:
             raise BadLine(place, "long")
         if line and not line.startswith(b"#"):
             add(menu, place, line)
-        if place > MOST_LINES or len(menu.deeds) > MOST_DEEDS or len(menu.again) + len(menu.comes) > MOST_LABELS:
+        if place > MOST_LINES or len(menu.deeds) > MOST_DEEDS or len(menu.again) + len(menu.comes) > MOST_LABELS \
+                or any(len(menu.out[word]) > most for word, (_, most) in LEFT_OUT.items()):
             raise BadLine(place, "many")
     return menu
 
@@ -64,12 +68,25 @@ def menu_of(data: bytes) -> Menu:
 def add(menu: Menu, place: int, line: bytes) -> None:
     """Adds what a line says that is neither blank nor a remark."""
     who, _, what = line.partition(b" ")
-    if who not in ASKS:
+    if who in LEFT_OUT:
+        menu.out[who].append(left_out(place, LEFT_OUT[who][0], what.split(b" ")))
+    elif who not in ASKS:
         menu.deeds.append(deed_of(place, line))
     elif what:
         (menu.again if who == AGAIN else menu.comes).append(what.decode("utf-8", "surrogateescape"))
     else:
         raise BadLine(place, "what")
+
+
+def left_out(place: int, limits: tuple[int, ...], words: list[bytes]) -> tuple[int, ...]:
+    """The numbers after `any`, `free` or `seen`."""
+    try:
+        numbers = tuple(map(script.number, words))
+    except script.Bad:
+        raise BadLine(place, "what") from None
+    if len(numbers) != len(limits) or any(number >= limit for number, limit in zip(numbers, limits)):
+        raise BadLine(place, "what")
+    return numbers
 
 
 def deed_of(place: int, line: bytes) -> Deed:

@@ -1,0 +1,289 @@
+"""Whether a monitor holds against every program of its children, and a report on it.
+
+The menu has every exit of a child that is confined: traps, faults, yields, and stores to the entries of its handler
+table that others read. Which words are left out is learned from the program's own answers: where it says `away no`, the
+way is made again by the reference, and an entry that is read there counts as seen from then on. What is said at the end
+is the program's, from one search with the menu that came out of this.
+"""
+
+from __future__ import annotations
+
+import copy
+import re
+from collections.abc import Iterator
+from typing import NamedTuple
+
+from common import calling, meanings
+from common.calling import Failed
+from common.machine import against, image as images, runs
+from common.machine.model import (HANDLERS, LAST_BLOCK, LOAD, NOWHERE, PAGE, ROOT, SAVED, Context, Fault, Node, Tree,
+                                  World)
+from debugger import searching, sources
+from debugger.searching import AWAY, END, Asked, Search
+from . import ways
+
+STATES = 1_000_000               # room where none is given
+FAULTS = (0, 6, 14, 17)          # the vectors of faults, whose two words can be any
+TRAPS = range(64, 256)           # those of `int`
+WORDS_OF_FAULTS = {0: "the pc of a division by zero", 6: "a pc and a word that is no instruction",
+                   14: "an address that isn't there", 17: "an address that isn't aligned"}
+MOST_ROUNDS = 64
+SWITCH = re.compile(r"(?:call 8 )?switch (\d+) (\d+) (\d+)")
+CALL = re.compile(r"call (\d+)")
+
+
+class LeftOut:
+    """The partitions whose programs may be any, their pages, and the words of these that others see, with the values
+    that a program may store there."""
+
+    def __init__(self) -> None:
+        self.own: set[int] = set()
+        self.pages: set[int] = set()
+        self.seen: dict[tuple[int, int], set[int]] = {}
+        self.depth = 1                           # of partitions one in another, up to the root
+
+    def __deepcopy__(self, memo: object) -> LeftOut:
+        return self
+
+    def has(self, page: int, index: int) -> bool:
+        return page in self.pages and (page, index) not in self.seen
+
+    def add(self, world: World, node: Node) -> None:
+        """A partition with all its pages. Where it is saved is read by whoever interrupts it."""
+        self.own.add(node.name)
+        self.pages |= {row.page for row in node.rows.values()}
+        self.depth = max(self.depth, 1 + len(world.tree.proper_ancestors(node)))
+        self.see(world, node, SAVED)
+
+    def see(self, world: World, node: Node, vector: int) -> None:
+        page = node.row(HANDLERS).page
+        self.seen.setdefault((page, vector), {0}).add(world.tree.word(page, vector))
+
+    def menu(self) -> list[str]:
+        """The lines of the menu: every exit of these partitions, and what is left out."""
+        stores = {(index, value) for (_, index), values in self.seen.items() for value in values}
+        return [*(f"each trap {vector} 0 0" for vector in (*FAULTS, *TRAPS)),
+                *(f"each call 8 0 {vector} {NOWHERE}" for vector in range(NOWHERE)), "each call 10", "each call 11",
+                *(f"each st {HANDLERS + 4 * index:#010x} {value:#010x}" for index, value in sorted(stores)),
+                *(f"any {name}" for name in sorted(self.own)), *(f"free {page}" for page in sorted(self.pages)),
+                *(f"seen {page} {index}" for page, index in sorted(self.seen))]
+
+
+class Watched(Tree):
+    """A tree that notes which words are read that are left out."""
+
+    def watch(self, out: LeftOut) -> None:
+        self.out, self.read, self.is_free = out, set[tuple[int, int]](), False
+
+    def word(self, page: int, index: int) -> int:
+        if not self.is_free and self.out.has(page, index):
+            self.read.add((page, index))
+        return super().word(page, index)
+
+    def block(self, node: Node, vector: int) -> int | None:
+        """Only the entry is read here."""
+        address = self.loaded(node, HANDLERS + 4 * vector)
+        is_there = address is not None and address % 4 == 0 and address % PAGE <= LAST_BLOCK \
+            and not isinstance(self.reach(node, address, LOAD, True), Fault)
+        return address if is_there else None
+
+    def handler(self, node: Node, vector: int) -> Context | None:
+        """With which context a partition goes on whose program may be any, nobody else sees."""
+        if self.block(node, vector) is None:
+            return None
+        self.is_free = node.name in self.out.own
+        try:
+            return super().handler(node, vector)
+        finally:
+            self.is_free = False
+
+
+class Seen(NamedTuple):
+    """A word that is left out and read, in whose turn, and by which event."""
+
+    page: int
+    index: int
+    name: int
+    by: str
+
+
+def events(world: World, cpu: int, deeds: list[against.Deed]) -> Iterator[tuple[str, World]]:
+    """What can happen there next, each in a world of its own."""
+    at = world.processors[cpu]
+    if not against.is_hostile(at, deeds):
+        after = copy.deepcopy(world)
+        turn = ways.turn_of(after, ways.Choice(cpu), (), 0, lambda line: None)
+        turn.take()
+        yield turn.did or "its turn", after
+        return
+    for deed in [None, *(deed for deed in deeds if at and deed.is_of(at.name))]:
+        after = copy.deepcopy(world)
+        against.Hostile(after, cpu, 0, lambda line: None, deed).take()
+        yield deed.line if deed else "a poll", after
+
+
+def seen_at(world: World, cpu: int, out: LeftOut, deeds: list[against.Deed]) -> list[Seen]:
+    """The words that are left out and read by what can happen there next."""
+    world.tree.__class__ = Watched
+    tree = world.tree
+    assert isinstance(tree, Watched)
+    tree.watch(out)
+    at = world.processors[cpu]
+    found: dict[tuple[int, int], Seen] = {}
+    for by, after in events(world, cpu, deeds):
+        assert isinstance(after.tree, Watched)
+        for page, index in sorted(after.tree.read):
+            found.setdefault((page, index), Seen(page, index, at.name if at else 0, by))
+    return list(found.values())
+
+
+class Answer(NamedTuple):
+    """What came out: the menu, the search, and why it isn't of every program, if it isn't."""
+
+    out: LeftOut
+    search: Search
+    why: str
+    way: str = ""
+
+
+def answer(program: str, asked: Asked, names: sources.Source) -> Answer:
+    """Searches until the answer stands."""
+    image, out = images.read(asked.data), LeftOut()
+    begun = runs.steps(image, *asked.after, lambda line: None)
+    for node in begun.tree.nodes.values():
+        if node.name != ROOT and HANDLERS // PAGE in node.rows:
+            out.add(begun, node)
+    out.own.add(ROOT + 1)                        # no partition has this name: so it is asked from the first round on
+    for _ in range(MOST_ROUNDS):
+        lines = out.menu()
+        text = "".join(f"{line}\n" for line in lines).encode()
+        menu = against.menu_of(text).deeds
+        search = searching.searched(program, asked._replace(menu=text))
+        said = next(filter(None, map(AWAY.fullmatch, search.again)))
+        if said[1] == "unknown":
+            return Answer(out, search, "the search didn't close: give more STATES")
+        if said[1] == "yes":
+            return Answer(out, search, taken(search, out))
+        way = said[2].strip()
+        world = copy.deepcopy(list(ways.made(image, ways.read(image, way, menu), menu, asked.after))[-1].world
+                              if way else begun)
+        cpu = int(said[3])
+        why = learned(world, cpu, out, menu, names)
+        if why:
+            return Answer(out, search, why, f"{way or 'at once'} : {cpu}")
+    raise Failed(f"after {MOST_ROUNDS} rounds words are still read that are left out")
+
+
+def learned(world: World, cpu: int, out: LeftOut, deeds: list[against.Deed], names: sources.Source) -> str:
+    """What is learned where something doesn't look away; or why it never will."""
+    at = world.processors[cpu]
+    if at and against.is_hostile(at, deeds):
+        node = world.node_on(cpu)
+        if node.name not in out.own:
+            out.add(world, node)
+            return ""
+        if world.tree.children(node):
+            return f"partition {node.name} has children"
+        if sum(row.rights & 3 == 3 for row in node.rows.values()) > 4:
+            return f"partition {node.name} has five pages to read and write, so it can create a partition"
+    seen = seen_at(world, cpu, out, deeds)
+    entries = [(node, word.index) for word in seen for node in world.tree.nodes.values()
+               if node.name in out.own and HANDLERS // PAGE in node.rows and node.row(HANDLERS).page == word.page
+               and word.index < NOWHERE]
+    for node, vector in entries:
+        out.see(world, node, vector)
+    if entries:
+        return ""
+    if not seen:
+        return "a word that is left out is read, and the reference doesn't find which"
+    word = seen[0]
+    who = "the root" if word.name == ROOT else f"partition {word.name}"
+    name = names.nearest((word.page, word.index))
+    return f"{who} reads word {word.index} of page {word.page}{name and f' ({name})'}: {word.by}"
+
+
+def taken(search: Search, out: LeftOut) -> str:
+    """A fault that a partition takes gets words that can be any, and the menu has zeros."""
+    for line in search.lines:
+        found = SWITCH.fullmatch(line.text)
+        if found and int(found[1]) in out.own and int(found[3]) in FAULTS:
+            return f"partition {found[2]} takes vector {found[3]}, and may look at {WORDS_OF_FAULTS[int(found[3])]}"
+    return ""
+
+
+# What is told
+
+
+def programs_of(out: LeftOut) -> str:
+    """The programs of which it is said."""
+    own = sorted(out.own - {ROOT + 1})
+    entries: dict[tuple[int, frozenset[int]], None] = {}
+    for (_, index), values in sorted(out.seen.items()):
+        entries[index, frozenset(values)] = None
+    kept = "; ".join(f"entry {index} is {' or '.join(f'{value:#010x}' for value in sorted(values))}"
+                     for index, values in entries)
+    return f"of partitions {', '.join(map(str, own))}{kept and f', as long as {kept}'}"
+
+
+def told_of(program: str, asked: Asked, names: sources.Source) -> list[str]:
+    return told(answer(program, asked, names))
+
+
+def told(found: Answer) -> list[str]:
+    end = END.fullmatch(found.search.last)
+    assert end
+    if found.why:
+        return [f"not of every program: {found.why}{found.way and f', after {found.way}'}"]
+    return [f"of every program {programs_of(found.out)}: whatever they do, no line comes but {len(found.search.lines)}, "
+            f"in {end[1]} states"]
+
+
+class Row(NamedTuple):
+    """A line of a report: what is asked, what is answered, and by which contract, or why nothing is."""
+
+    what: str
+    answer: str
+    by: str
+
+
+def report(program: str, asked: Asked, names: sources.Source) -> list[str]:
+    """Ten lines on one monitor."""
+    found = answer(program, asked, names)
+    proved = "unproved" if program == calling.UNPROVED else "proved"
+    is_closed = found.search.last.endswith("closed")
+    of_menu = "" if is_closed else "the search didn't close"
+    rows = [Row("closed", f"{'yes' if is_closed else 'no'}, {found.search.last}", f"{proved}, ClosedNamesMenus"),
+            Row("every program", told(found)[0], found.why or f"{proved}, AwayTextsNamePrograms"),
+            *lines_of(found.search, proved, of_menu), *turns_of(program, asked, found, proved, of_menu),
+            longest(asked, found, proved)]
+    return [f"{row.what:<16}{row.answer}    # {row.by}" for row in rows]
+
+
+def lines_of(search: Search, proved: str, of_menu: str) -> Iterator[Row]:
+    parks = [line for line in search.lines if line.text.startswith(f"park {ROOT} ")]
+    yield Row("root parks", f"yes: {parks[0].way}" if parks else "never", of_menu or f"{proved}, ClosedNamesMenus")
+    refused = {line.text for line in search.lines
+               if meanings.outcome_of(line.text)[1][0] == "reply" and line.is_trouble}
+    yield Row("refused calls", ", ".join(sorted(refused)) or "none", of_menu or f"{proved}, ClosedNamesMenus")
+
+
+def turns_of(program: str, asked: Asked, found: Answer, proved: str, of_menu: str) -> Iterator[Row]:
+    """Whether each partition's turn comes."""
+    turns = {name: next((f"{line.cpu} {line.text}" for line in found.search.lines
+                         if (at := SWITCH.fullmatch(line.text)) and int(at[2]) == name and int(at[1]) != name), "")
+             for name in sorted(found.out.own - {ROOT + 1})}
+    lines = [*found.out.menu(), *(f"comes {label}" for label in turns.values() if label)]
+    search = searching.searched(program, asked._replace(menu="".join(f"{line}\n" for line in lines).encode()))
+    said = {line.split(": ", 1)[0]: line.split(": ", 1)[1] for line in search.again if ": " in line}
+    for name, label in turns.items():
+        yield Row(f"turn of {name}", said.get(f"comes {label}", "it has none"), of_menu or f"{proved}, YesComes"
+                  if label else "no line enters it")
+
+
+def longest(asked: Asked, found: Answer, proved: str) -> Row:
+    """The bound of the longest turn: a poll, a fetch, and one event more (docs/GUARANTEES.md)."""
+    depth, frames = found.out.depth, images.read(asked.data).frames
+    calls = {int(call[1]) for call in (CALL.match(line.text) for line in found.search.lines) if call}
+    bounds = {0: 35 * depth + 55, 1: 7 * frames * frames, 3: 28 * depth + 74, 4: 28 * depth + 106 + frames, 8: 88}
+    most = max([8 * depth + 80, *(bounds.get(call, 34) for call in calls)])
+    return Row("longest turn", f"{190 + 8 * depth + 80 + most} reads of frames at most", f"{proved}, law_work")
