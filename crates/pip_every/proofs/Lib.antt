@@ -11,3 +11,5 @@ pub mod Rekeyed
 pub mod Rebasing
 pub mod Saying
 pub mod OnStates
+pub mod Seeing
+pub mod Passing

@@ -8,3 +8,4 @@ pub mod Explored
 pub mod Again
 pub mod Comes
 pub mod Away
+pub mod Passing

@@ -5,6 +5,8 @@ ghost use Rattle.pip_base.specs.Memory.{IsMemory};
 ghost use Rattle.pip_model.specs.Worlds.{World};
 ghost use Rattle.pip_model.specs.declared.turn_end.TurnEnd.{TurnEnd};
 ghost use Rattle.pip_search.specs.Systems.{IsKey};
+ghost use Rattle.pip_away.specs.Blind.{blind_of};
+ghost use Rattle.pip_every.specs.Away as away;
 ghost use Rattle.pip_every.specs.Choosing.{ChangesNothing, HasChosen, HasPicked, IsAtWorld};
 ghost use Rattle.pip_every.specs.Choosing.{machine_scope};
 ghost use Rattle.pip_every.specs.Keys.{AreChanged, IsKeyOf, key_words, processor_words};
@@ -15,9 +17,11 @@ ghost use Rattle.pip_every.specs.Moments.{Moment};
 
 use crate::deeds::act_from_menu;
 use crate::label::Label;
+use crate::looking::looks_away;
 use crate::menus::{Deed, May, is_hostile, is_its};
 use crate::processors::{add_processors, name_at, read_processors};
 use crate::seed::seed_of;
+use pip_away::Blind;
 use pip_base::{Outcome, Steps};
 use pip_cpu::{TurnEnd, turn};
 use pip_journal::{First, Journal};
@@ -147,6 +151,25 @@ impl<F: First, L: Ledger> Explorer<F, L> {
         let (cpus, words) = read_processors(&key[1..], self.machine.cpus());
         self.machine.rewind(words, cpus, &mut self.steps);
         (key[0], words)
+    }
+
+    /// How many processors there are.
+    pub(crate) fn cpus(&self) -> u32
+        ensures { result ≡ (explored self.now).scope.cpus }
+    {
+        self.machine.cpus()
+    }
+
+    /// Whether the moment of a key passes the test on a processor.
+    pub(crate) fn passes(&mut self, key: &[u32], blind: &Blind, cpu: u32) -> bool
+        requires key { IsKey (menu_model F.words (explored self.old)) key.now }
+        requires cpu { cpu < (explored self.old).scope.cpus }
+        ensures passes { (m : Moment) → IsKeyOf F.words (explored self.old).scope key.now m → result
+            ≡ away.looks_away blind.now.own.items (blind_of blind.now) (explored self.old) m.world cpu }
+        ensures base { explored self.new ≡ explored self.old }
+    {
+        let _ = self.go_to(key);
+        looks_away(&mut self.machine, blind, &self.may, cpu, &mut self.steps)
     }
 
     /// How many choices there are without the deeds.

@@ -14,6 +14,7 @@
 
 mod again;
 mod asking;
+mod away;
 mod comes;
 mod deeds;
 mod explorer;
@@ -29,6 +30,7 @@ mod seed;
 
 pub use again::Again;
 pub use asking::{Asked, MAX_LABEL, MAX_LABELS, Replies};
+pub use away::Away;
 pub use comes::Comes;
 pub use label::Label;
 pub use later::{note_words, words_later};

@@ -7,7 +7,9 @@ ghost use Rattle.pip_model.specs.Worlds.{World};
 ghost use Rattle.pip_search.specs.Summary.{IsTold};
 ghost use Rattle.pip_search.specs.Ways.{AreTraced, witnesses_of};
 ghost use Rattle.pip_switch.specs.Standing.{StandsAs};
+ghost use Rattle.pip_away.specs.Blind.{left_out};
 ghost use Rattle.pip_every.specs.Again.{AreSaid};
+ghost use Rattle.pip_every.specs.Away.{IsAwayReply};
 ghost use Rattle.pip_every.specs.Choosing.{machine_menu};
 ghost use Rattle.pip_every.specs.Comes.{AreComing, own_classes};
 ghost use Rattle.pip_every.specs.Keys.{model_of};
@@ -16,6 +18,7 @@ ghost use Rattle.pip_every.specs.Moments.{first_moment, moment_at};
 
 use crate::again::say_all;
 use crate::asking::{Asked, Replies};
+use crate::away::say_away;
 use crate::comes::say_coming;
 use crate::explorer::Explorer;
 use crate::later::booted_later;
@@ -62,6 +65,9 @@ pub fn search_on<F: First, L: Ledger>(
         (machine_menu machine lines.now from may.items))
         (own_classes (usual_choices (machine_menu machine lines.now from may.items)))
         (moment_at w) (map (λ l. l.items) asked.now.comes.items) r.1 r.2.comes.items) }
+    ensures away { IfOk result (λ r. (w : World) (first : Memory) → StandsAs machine w → IsMemory first
+        → length first ≡ length F.words → IsAwayReply first (left_out asked.now.blind)
+        (machine_menu machine lines.now from may.items) (moment_at w) r.1 r.2.away) }
     ensures traced { IfOk result (λ r. AreTraced r.0.visits.items r.0.found.items) }
     ensures room { IfOk result (λ r. length r.0.visits.items ≤ limit) }
 {
@@ -91,7 +97,8 @@ pub fn search_on<F: First, L: Ledger>(
         asked.comes.as_slice(),
         width,
     )?;
-    Ok((search, extent, Replies { again, comes }))
+    let away = say_away(&search, extent, &mut explorer, alloc, start, &asked.blind)?;
+    Ok((search, extent, Replies { again, comes, away }))
 }
 
 // `search_against` over a journal whose first words are those of the frames `later`, as many as the machine's. The

@@ -1,5 +1,6 @@
 -- The search begins at the moment of each world for which the machine stands.
 use Rattle.std.proofs.Common.{◌≡◌, ◌≤◌, ◌∙◌, ◌++◌, ap, length, map, subst, sym}
+use Rattle.pip_away.specs.Blind.{left_out}
 use Rattle.pip_model.specs.Worlds.{World}
 use Rattle.pip_search.specs.Systems.{IsKey}
 use Rattle.pip_search.specs.Ways.{witnesses_of}
@@ -13,6 +14,7 @@ use Rattle.pip_every.specs.Menus.{Menu, menu_model, usual_choices}
 use Rattle.pip_every.specs.Moments.{moment_at}
 use Rattle.pip_every.proofs.Keying.{begun, menu_is, scope_is}
 use Rattle.pip_every.proofs.OneKey.{one_key, told_at}
+use Rattle.pip_every.proofs.Passing.{rebased_away}
 use Rattle.pip_every.proofs.Rebasing.{rebased}
 use Rattle.pip_every.proofs.Saying.{rebased_coming, rebased_said}
 use Rattle.pip_every.proofs.searching.search_on.Goals as goal
@@ -56,6 +58,18 @@ say_coming-requires-clause-key g c =
 pub say_coming-requires-clause-one : goal.say_coming-requires-clause-one
 say_coming-requires-clause-one g c = one_key g.F.First.words (explored c.say_all.new.system).scope
 
+pub say_away-requires-clause-key : goal.say_away-requires-clause-key
+say_away-requires-clause-key g c =
+    let (w, stands) = c.requires.stands in
+    let count : length c.new-explorer.result.machine.cpus ≡ length c.add_key.new.self.machine.cpus =
+    ap (λ p. length p.cpus) (sym c.in_ok-add_key.ensures.machine) in
+    subst (λ t. IsKey (menu_model g.F.First.words t) c.as_slice-start.result.now)
+    (sym (c.in_ok-comes.ensures.base ∙ c.in_ok-again.ensures.base ∙ c.in_ok-search.ensures.base)) (
+      moment_at w,
+      begun w stands c.new-explorer.ensures.machine c.in_ok-add_key.ensures.count count c.new-key.ensures.items
+          (c.as_slice-start.ensures.value ∙ c.in_ok-add_key.ensures.key),
+    )
+
 pub returns : goal.returns
 returns g c =
     let first = g.F.First.words in
@@ -80,6 +94,8 @@ returns g c =
     let base : now ≡ t = c.in_ok-search.ensures.base in
     let later : Menu = explored c.say_all.new.system in
     let next : later ≡ t = c.in_ok-again.ensures.base ∙ base in
+    let last : Menu = explored c.say_coming.new.system in
+    let rest : last ≡ t = c.in_ok-comes.ensures.base ∙ next in
     let r = c.in_ok-search in
     let end = r.extent in
     let ws = witnesses_of end r.search.visits.items r.search.found.items in
@@ -101,6 +117,9 @@ returns g c =
           (c.usual_choices-width.ensures ∙ ap usual_choices (sym c.in_ok-again.ensures.base))
           (c.in_ok-comes.ensures.said (moment_at w)
           (subst (λ k. IsKeyOf first k.scope c.as_slice-start.result.now (moment_at w)) (sym next) (key w stands))));
+      away = λ w other stands shape frames. rebased_away first other (left_out c.args.asked.now.blind) last all
+          (moment_at w) end c.in_ok-away.away (rest ∙ same) (c.in_ok-away.ensures (moment_at w)
+          (subst (λ k. IsKeyOf first k.scope c.as_slice-start.result.now (moment_at w)) (sym rest) (key w stands)));
       traced = r.ensures.traced;
       room = subst (λ n. n ≤ c.args.limit) r.search.visits.ok.0 r.ensures.room;
     }
