@@ -1,14 +1,13 @@
 -- Two searches of one image say the same.
 use Rattle.std.proofs.Common.{◌≡◌, ℕ, suc, ◌<◌, List, [], ◌∷◌, ◌++◌, Option, None, refl, sym, ap, ap₂, ◌∙◌, subst}
-use Rattle.std.proofs.Common.{Bool, Some, arith, false, nat_lt, true}
+use Rattle.std.proofs.Common.{Bool, arith, false, true}
 use Rattle.std.specs.Prelude.{codes, flat_map, reverse}
-use Rattle.std.proofs.lemmas.Bool.{ltb-true}
-use Rattle.std.proofs.lemmas.Bool.Decides.{nat_tests}
 use Rattle.pip_away.specs.Blind.{LeftOut, leaves_out}
 use Rattle.pip_base.specs.Memory.{Memory}
 use Rattle.pip_base.proofs.Memory.{same_words}
 use Rattle.pip_every.specs.Again.{AreSaid, IsSaid, shown_line}
-use Rattle.pip_every.specs.Away.{IsAwayReply, IsAwaySaid, IsSeenFirst}
+use Rattle.pip_every.specs.Away.{IsAwayReply, SayTheSame}
+use Rattle.pip_every.proofs.Passing.{said_once}
 use Rattle.pip_every.specs.declared.away.Away.{Away}
 use Rattle.pip_every.specs.declared.away.Away.TheVariants as A
 use Rattle.pip_every.specs.Moments.{Moment}
@@ -112,50 +111,29 @@ agree_once m classes s label (Stopped depth) a b h k = subst (λ x. IsNoContradi
 
 -- ---- what is said of the words that are left out
 
-module _ (first : Memory) (o : LeftOut) (g : Menu) (s : Moment) where
-  -- of two states the first on which one doesn't look away is one, and so is its first processor
-  seen_once : (cs ds : List ℕ) (c d : ℕ) → IsSeenFirst first o g s cs c → IsSeenFirst first o g s ds d
-      → (cs ≡ ds) × (c ≡ d)
-  seen_once cs ds c d h k =
-      let same : cs ≡ ds = no_later_both cs ds (h.soonest ds d k.can k.there k.seen)
-      (k.soonest cs c h.can h.there h.seen) in
-      (same, one c d (subst (λ x. IsSeenFirst first o g s x c) same h) k)
-    where
-      one : (c d : ℕ) → IsSeenFirst first o g s ds c → IsSeenFirst first o g s ds d → c ≡ d
-      one c d h k = by_order (nat_lt c d) (nat_lt d c) refl refl
-        where
-          by_order : (a b : Bool) → nat_lt c d ≡ a → nat_lt d c ≡ b → c ≡ d
-          by_order true b less also = absurd (let e = sym (k.least c (ltb-true c d less)) ∙ h.seen in cc)
-          by_order false true not less = absurd (let e = sym (h.least d (ltb-true d c less)) ∙ k.seen in cc)
-          by_order false false not nor = grind (not, nor, arith, nat_tests)
+same_words_away : (cpus : ℕ) (ls : List ℕ) (a b : Away) → SayTheSame a b → away_words cpus ls a ≡ away_words cpus ls b
+same_words_away cpus ls A.Yes A.Yes h = refl
+same_words_away cpus ls A.Unknown A.Unknown h = refl
+same_words_away cpus ls (A.No way cpu) (A.No other k) (runs, one) = ap₂ (seen_words cpus ls) runs one
+same_words_away cpus ls A.Yes (A.No way cpu) h = absurd h
+same_words_away cpus ls A.Yes A.Unknown h = absurd h
+same_words_away cpus ls A.Unknown A.Yes h = absurd h
+same_words_away cpus ls A.Unknown (A.No way cpu) h = absurd h
+same_words_away cpus ls (A.No way cpu) A.Yes h = absurd h
+same_words_away cpus ls (A.No way cpu) A.Unknown h = absurd h
 
-  module _ (cpus : ℕ) (ls : List ℕ) where
-    said_once : (end : Extent) (a b : Away) → IsAwaySaid first o g s end a → IsAwaySaid first o g s end b
-        → away_words cpus ls a ≡ away_words cpus ls b
-    said_once (Closed depth) A.Yes A.Yes h k = refl
-    said_once (Closed depth) A.Yes (A.No way cpu) h (cs, (is, k)) =
-        absurd (let e = sym (h cs cpu k.can k.there) ∙ k.seen in cc)
-    said_once (Closed depth) (A.No way cpu) A.Yes (cs, (is, h)) k =
-        absurd (let e = sym (k cs cpu h.can h.there) ∙ h.seen in cc)
-    said_once (Closed depth) (A.No way cpu) (A.No other at) (cs, (is, h)) (ds, (also, k)) =
-        let (same, one) = seen_once cs ds cpu at h k in
-        ap₂ (seen_words cpus ls) (is ∙ (ap (λ c. reverse (runs_of c)) same ∙ sym also)) one
-    said_once (Closed depth) A.Unknown b h k = absurd h
-    said_once (Closed depth) A.Yes A.Unknown h k = absurd k
-    said_once (Closed depth) (A.No way cpu) A.Unknown h k = absurd k
-    said_once (Within depth) a b h k = ap (away_words cpus ls) (h ∙ sym k)
-    said_once (Stopped depth) a b h k = ap (away_words cpus ls) (h ∙ sym k)
-
-    away_once : (end : Extent) (a b : Option Away) → IsAwayReply first o g s end a → IsAwayReply first o g s end b
-        → away_text cpus ls a ≡ away_text cpus ls b
-    away_once end a b h k = by_test (leaves_out o) refl
-      where
-        by_test : (t : Bool) → leaves_out o ≡ t → away_text cpus ls a ≡ away_text cpus ls b
-        by_test true e =
-            let (x, (is, said)) = h.asked e in
-            let (y, (also, other)) = k.asked e in
-            ap (away_text cpus ls) is ∙ (said_once end x y said other ∙ sym (ap (away_text cpus ls) also))
-        by_test false e = ap (away_text cpus ls) (h.none e ∙ sym (k.none e))
+away_once : (first : Memory) (o : LeftOut) (g : Menu) (s : Moment) (cpus : ℕ) (ls : List ℕ) (end : Extent)
+    (a b : Option Away) → IsAwayReply first o g s end a → IsAwayReply first o g s end b
+    → away_text cpus ls a ≡ away_text cpus ls b
+away_once first o g s cpus ls end a b h k = by_test (leaves_out o) refl
+  where
+    by_test : (t : Bool) → leaves_out o ≡ t → away_text cpus ls a ≡ away_text cpus ls b
+    by_test true e =
+        let (x, (is, said)) = h.asked e in
+        let (y, (also, other)) = k.asked e in
+        ap (away_text cpus ls) is
+        ∙ (same_words_away cpus ls x y (said_once first o g s end x y said other) ∙ sym (ap (away_text cpus ls) also))
+    by_test false e = ap (away_text cpus ls) (h.none e ∙ sym (k.none e))
 
 -- an image and a menu have one text, but for what is said of labels that may come
 pub searched_alike : (menu : MenuSaid) (states from : ℕ) (depth : Option ℕ) (start : Start) (i : Image) (v u : Response)
