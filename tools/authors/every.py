@@ -8,8 +8,8 @@ script.
     tools/every --report FILE [STATES [FROM]] [--after ..]
 
 The lines are those of the program's command `every`, or of `against` where there is a menu; with --after it searches
-what comes after these steps of `run`. With --any it is of every program of the monitor's children, by a menu of its own;
-a report says more of the monitor. N is a line's number. A way is made again by dev/reference, of which nothing is
+what comes after these steps of `run`. With --any it is of every program of the monitor's children, by a menu of its
+own; a report says more of the monitor. N is a line's number. A way is made again by dev/reference, of which nothing is
 proved, and what it shows at its end is compared with the line.
 """
 

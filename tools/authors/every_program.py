@@ -73,10 +73,10 @@ class Watched(Tree):
     """A tree that notes which words are read that are left out."""
 
     def watch(self, out: LeftOut) -> None:
-        self.out, self.read, self.is_free = out, set[tuple[int, int]](), False
+        self.out, self.read, self.is_blank = out, set[tuple[int, int]](), False
 
     def word(self, page: int, index: int) -> int:
-        if not self.is_free and self.out.has(page, index):
+        if not self.is_blank and self.out.has(page, index):
             self.read.add((page, index))
         return super().word(page, index)
 
@@ -91,18 +91,18 @@ class Watched(Tree):
         """With which context a partition goes on whose program may be any, nobody else sees."""
         if self.block(node, vector) is None:
             return None
-        self.is_free = node.name in self.out.own
+        self.is_blank = node.name in self.out.own
         try:
             return super().handler(node, vector)
         finally:
-            self.is_free = False
+            self.is_blank = False
 
 
 class Seen(NamedTuple):
     """A word that is left out and read, in whose turn, and by which event."""
 
     page: int
-    index: int
+    word: int
     name: int
     by: str
 
@@ -187,9 +187,9 @@ def learned(world: World, cpu: int, out: LeftOut, deeds: list[against.Deed], nam
         if sum(row.rights & 3 == 3 for row in node.rows.values()) > 4:
             return f"partition {node.name} has five pages to read and write, so it can create a partition"
     seen = seen_at(world, cpu, out, deeds)
-    entries = [(node, word.index) for word in seen for node in world.tree.nodes.values()
+    entries = [(node, word.word) for word in seen for node in world.tree.nodes.values()
                if node.name in out.own and HANDLERS // PAGE in node.rows and node.row(HANDLERS).page == word.page
-               and word.index < NOWHERE]
+               and word.word < NOWHERE]
     for node, vector in entries:
         out.see(world, node, vector)
     if entries:
@@ -198,8 +198,8 @@ def learned(world: World, cpu: int, out: LeftOut, deeds: list[against.Deed], nam
         return "a word that is left out is read, and the reference doesn't find which"
     word = seen[0]
     who = "the root" if word.name == ROOT else f"partition {word.name}"
-    name = names.nearest((word.page, word.index))
-    return f"{who} reads word {word.index} of page {word.page}{name and f' ({name})'}: {word.by}"
+    name = names.nearest((word.page, word.word))
+    return f"{who} reads word {word.word} of page {word.page}{name and f' ({name})'}: {word.by}"
 
 
 def taken(search: Search, out: LeftOut) -> str:
@@ -234,8 +234,8 @@ def told(found: Answer) -> list[str]:
     assert end
     if found.why:
         return [f"not of every program: {found.why}{found.way and f', after {found.way}'}"]
-    return [f"of every program {programs_of(found.out)}: whatever they do, no line comes but {len(found.search.lines)}, "
-            f"in {end[1]} states"]
+    return [f"of every program {programs_of(found.out)}: whatever they do, no line comes but "
+            f"{len(found.search.lines)}, in {end[1]} states"]
 
 
 class Row(NamedTuple):

@@ -15,8 +15,8 @@ use Rattle.pip_input.proofs.LinesOf.{Begins, begins, lines_last, lines_newline}
 use Rattle.pip_input.proofs.Taking.{all_read, line_split, took_line}
 use Rattle.pip_model.specs.Grammar.{lines_of}
 use Rattle.pip_search_commands.specs.MenuReading.{BeginsMenu, TakesBadLine, TakesGoodLines, TakesMenu}
-use Rattle.pip_search_commands.specs.MenuText.{Asks, Does, Frees, MenuSaid, Nothing, Said, any_said, goes_on_after, line_said}
-use Rattle.pip_search_commands.specs.MenuText.{has_room, menu_from, menu_of, no_menu, with_freedom, with_question}
+use Rattle.pip_search_commands.specs.MenuText.{Asks, Does, Frees, MenuSaid, Nothing, Said, any_said, can_add}
+use Rattle.pip_search_commands.specs.MenuText.{goes_on_after, line_said, menu_from, menu_of, no_menu, with_freedom, with_question}
 use Rattle.pip_search_commands.specs.MenuText.{with_line}
 use Rattle.pip_search_commands.specs.declared.commands.against.menu_line.MenuKind.{MenuKind}
 use Rattle.pip_search_commands.specs.declared.commands.against.menu_line.MenuKind.TheVariants.{Long, Many}
@@ -234,4 +234,4 @@ few_lines n menu (Ok (Does may)) more is =
 few_lines n menu (Ok (Asks q label)) more is =
     few_with n (nat_lt (length menu.again + length menu.comes) 16) (with_question q label menu) more is
 few_lines n menu (Ok (Frees freedom)) more is =
-    few_with n (has_room freedom menu.out) (record menu { out = with_freedom freedom menu.out }) more is
+    few_with n (can_add freedom menu.out) (record menu { out = with_freedom freedom menu.out }) more is

@@ -1,7 +1,7 @@
 -- The menu of `against`: lines of text, each of which says that partitions may do a deed, or asks whether a label can
 -- come again, or whether it comes, or says which words are left out of what the others may read.
-use Rattle.std.specs.Prelude.{ℕ, ◌+◌, ◌==◌, ◌&&◌, nat_le, nat_lt, Bool, if◌then◌else◌, List, [], ◌∷◌, ◌++◌, length, Option}
-use Rattle.std.specs.Prelude.{Some, None, Result, Ok, Err, codes, decimal, option_and_then, option_map}
+use Rattle.std.specs.Prelude.{ℕ, ◌+◌, ◌==◌, ◌&&◌, nat_le, nat_lt, Bool, if◌then◌else◌, List, [], ◌∷◌, ◌++◌, length}
+use Rattle.std.specs.Prelude.{Option, Some, None, Result, Ok, Err, codes, decimal, option_and_then, option_map}
 use Rattle.std.specs.Str.{bytes_eq}
 use Rattle.pip_away.specs.Blind.{LeftOut}
 use Rattle.pip_away.specs.declared.blind.PageWord.{PageWord}
@@ -100,13 +100,13 @@ last_number [] = None
 last_number (space ∷ text) = number_of text
 
 -- a word of a page
-abbrev pub page_word : ℕ → ℕ → Option Freedom
-page_word page index = if nat_lt index 1024 then Some (F.Seen (record { page = page; index = index })) else None
+abbrev pub seen_in : ℕ → ℕ → Option Freedom
+seen_in page index = if nat_lt index 1024 then Some (F.Seen (record { page = page; index = index })) else None
 
 -- by the page and by what follows it
 abbrev pub seen_word : Option ℕ → List ℕ → Option Freedom
 seen_word None rest = None
-seen_word (Some page) rest = option_and_then (page_word page) (last_number rest)
+seen_word (Some page) rest = option_and_then (seen_in page) (last_number rest)
 
 -- the two numbers that follow a word
 abbrev pub seen_said : List ℕ → Option Freedom
@@ -166,10 +166,10 @@ with_freedom (F.Page page) out = record out { pages = out.pages ++ page ∷ [] }
 with_freedom (F.Seen word) out = record out { seen = out.seen ++ word ∷ [] }
 
 -- there is room for it: 64 partitions, 256 pages, and 256 words that are seen
-abbrev pub has_room : Freedom → LeftOut → Bool
-has_room (F.Program name) out = nat_lt (length out.own) 64
-has_room (F.Page page) out = nat_lt (length out.pages) 256
-has_room (F.Seen word) out = nat_lt (length out.seen) 256
+abbrev pub can_add : Freedom → LeftOut → Bool
+can_add (F.Program name) out = nat_lt (length out.own) 64
+can_add (F.Page page) out = nat_lt (length out.pages) 256
+can_add (F.Seen word) out = nat_lt (length out.seen) 256
 
 -- what is said up to line n and with it. A menu has at most 65,536 lines, 1024 deeds, and 16 labels in all
 abbrev pub with_line : ℕ → MenuSaid → Result Said MenuKind → Result MenuSaid MenuKind
@@ -182,7 +182,7 @@ with_line n menu (Ok (Asks q label)) =
     if nat_le n 65536 && nat_lt (length menu.again + length menu.comes) 16 then Ok (with_question q label menu)
     else Err K.Many
 with_line n menu (Ok (Frees freedom)) =
-    if nat_le n 65536 && has_room freedom menu.out then Ok (record menu { out = with_freedom freedom menu.out })
+    if nat_le n 65536 && can_add freedom menu.out then Ok (record menu { out = with_freedom freedom menu.out })
     else Err K.Many
 
 -- what comes of line n, and then of the further ones

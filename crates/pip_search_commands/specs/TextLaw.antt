@@ -35,7 +35,8 @@ ClosedTextsNameRuns = (states from : ℕ) (most : Option ℕ) (start : Start) (i
 abbrev pub ClosedTextsNameMenus : Type 0
 ClosedTextsNameMenus = (menu : MenuSaid) (states from : ℕ) (most : Option ℕ) (start : Start) (i : Image)
     (text : List ℕ) (s : IsSearchedAgainst menu states from most start i (plainly 0 text None)) → menu.again ≡ []
-    → menu.comes ≡ [] → leaves_out menu.out ≡ false → EndsSo text (codes " closed") → (label choices : List ℕ) → label ≢ []
+    → menu.comes ≡ [] → leaves_out menu.out ≡ false → EndsSo text (codes " closed") → (label choices : List ℕ)
+    → label ≢ []
     → IsShownOn (menu_model s.first (image_menu i from menu.may)) (begun_moment i start) label choices
     → HasLineOf text label
 
@@ -48,6 +49,7 @@ comes_again_line label = codes "again " ++ label ++ codes ": yes\n"
 abbrev pub YesTextsComeAgain : Type 0
 YesTextsComeAgain = (menu : MenuSaid) (states from : ℕ) (most : Option ℕ) (start : Start) (i : Image)
     (text front : List ℕ) (s : IsSearchedAgainst menu states from most start i (plainly 0 text None)) (j k : ℕ)
-    (label : List ℕ) → menu.comes ≡ [] → leaves_out menu.out ≡ false → text ≡ front ++ flat_map comes_again_line (drop j menu.again) → j ≤ k
-    → slice_get menu.again k ≡ Some label → CanComeAgain (menu_model s.first (image_menu i from menu.may))
+    (label : List ℕ) → menu.comes ≡ [] → leaves_out menu.out ≡ false
+    → text ≡ front ++ flat_map comes_again_line (drop j menu.again) → j ≤ k → slice_get menu.again k ≡ Some label
+    → CanComeAgain (menu_model s.first (image_menu i from menu.may))
     (usual_choices (image_menu i from menu.may)) (begun_moment i start) (shown_line label)
