@@ -1,5 +1,5 @@
-//! A search with a menu, and partitions whose programs do nothing outside but what is on it: laws, and what follows from
-//! the test of a state by which a search says that it looks away.
+//! A search with a menu, and partitions whose programs do nothing outside but what is on it: laws, and what follows
+//! from the test of a state by which a search says that it looks away.
 #![tactic(auto)]
 
 ghost use Rattle.pip_hostile.specs.Hostile.{CallsAreOnMenu, ConfinedKeepsToMenu, FetchFaultsAreOnMenu};
