@@ -9,3 +9,4 @@ pub mod Again
 pub mod Comes
 pub mod Away
 pub mod Passing
+pub mod Explained

@@ -1,9 +1,11 @@
 //! The search.
-ghost use Rattle.std.specs.Prelude.{◌≡◌, ℕ, ◌<◌, ◌≤◌, All, IfOk, length, map};
+ghost use Rattle.std.specs.Prelude.{◌≡◌, ℕ, ◌<◌, ◌≤◌, [], All, IfOk, length, map};
 ghost use Rattle.pip_base.specs.Memory.{IsMemory, Memory};
 ghost use Rattle.pip_base.specs.Opening.{CanOpen};
 ghost use Rattle.pip_model.specs.Booted.{HasBooted, IsBooted};
 ghost use Rattle.pip_model.specs.Worlds.{World};
+ghost use Rattle.pip_search.specs.Keys.{visits_of};
+ghost use Rattle.pip_search.specs.Reached.{Tells};
 ghost use Rattle.pip_search.specs.Summary.{IsTold};
 ghost use Rattle.pip_search.specs.Ways.{AreTraced, witnesses_of};
 ghost use Rattle.pip_switch.specs.Standing.{StandsAs};
@@ -12,6 +14,7 @@ ghost use Rattle.pip_every.specs.Again.{AreSaid};
 ghost use Rattle.pip_every.specs.Away.{IsAwayReply};
 ghost use Rattle.pip_every.specs.Choosing.{machine_menu};
 ghost use Rattle.pip_every.specs.Comes.{AreComing, own_classes};
+ghost use Rattle.pip_every.specs.Explained.{IsExplained};
 ghost use Rattle.pip_every.specs.Keys.{model_of};
 ghost use Rattle.pip_every.specs.Menus.{menu_model, usual_choices};
 ghost use Rattle.pip_every.specs.Moments.{first_moment, moment_at};
@@ -68,6 +71,8 @@ pub fn search_on<F: First, L: Ledger>(
     ensures away { IfOk result (λ r. (w : World) (first : Memory) → StandsAs machine w → IsMemory first
         → length first ≡ length F.words → IsAwayReply first (left_out asked.now.blind)
         (machine_menu machine lines.now from may.items) (moment_at w) r.1 r.2.away) }
+    ensures explains { IfOk result (λ r. (w : World) → StandsAs machine w → Tells (menu_model F.words
+        (machine_menu machine lines.now from may.items)) (moment_at w) (visits_of r.0) r.0.found.items r.1) }
     ensures traced { IfOk result (λ r. AreTraced r.0.visits.items r.0.found.items) }
     ensures room { IfOk result (λ r. length r.0.visits.items ≤ limit) }
 {
@@ -131,6 +136,10 @@ fn search_from<F: First, L: Ledger>(
         (record { scope = record { cpus = cpus; lines = lines.now; from = from }; may = may.items }))
         (first_moment words n cpus) most limit
         (witnesses_of r.1 r.0.visits.items r.0.found.items) (length r.0.visits.items) r.1) }
+    ensures explains { IfOk result (λ r. (n : ℕ) (words : ℕ → ℕ → ℕ)
+        → IsBooted n words (⟦<RawFrames as Frames>⟧.memory mem) → IsExplained
+        (record { scope = record { cpus = cpus; lines = lines.now; from = from }; may = may.items })
+        (length (⟦<RawFrames as Frames>⟧.memory mem)) (first_moment words n cpus) r.0 r.1) }
     ensures traced { IfOk result (λ r. AreTraced r.0.visits.items r.0.found.items) }
     ensures room { IfOk result (λ r. length r.0.visits.items ≤ limit) }
 {
@@ -177,6 +186,10 @@ pub fn search_against(
         (record { scope = record { cpus = cpus; lines = lines.now; from = from }; may = may.items }))
         (first_moment words n cpus) most limit
         (witnesses_of r.1 r.0.visits.items r.0.found.items) (length r.0.visits.items) r.1) }
+    ensures explains { IfOk result (λ r. (n : ℕ) (words : ℕ → ℕ → ℕ)
+        → IsBooted n words (⟦<RawFrames as Frames>⟧.memory mem) → IsExplained
+        (record { scope = record { cpus = cpus; lines = lines.now; from = from }; may = may.items })
+        (length (⟦<RawFrames as Frames>⟧.memory mem)) (first_moment words n cpus) r.0 r.1) }
     ensures traced { IfOk result (λ r. AreTraced r.0.visits.items r.0.found.items) }
     ensures room { IfOk result (λ r. length r.0.visits.items ≤ limit) }
 {
@@ -218,6 +231,10 @@ pub fn search(
         → IsTold (model_of (⟦<RawFrames as Frames>⟧.memory mem)
         (record { cpus = cpus; lines = lines.now; from = from })) (first_moment words n cpus) most limit
         (witnesses_of r.1 r.0.visits.items r.0.found.items) (length r.0.visits.items) r.1) }
+    ensures explains { IfOk result (λ r. (n : ℕ) (words : ℕ → ℕ → ℕ)
+        → IsBooted n words (⟦<RawFrames as Frames>⟧.memory mem) → IsExplained
+        (record { scope = record { cpus = cpus; lines = lines.now; from = from }; may = [] })
+        (length (⟦<RawFrames as Frames>⟧.memory mem)) (first_moment words n cpus) r.0 r.1) }
     ensures traced { IfOk result (λ r. AreTraced r.0.visits.items r.0.found.items) }
     ensures room { IfOk result (λ r. length r.0.visits.items ≤ limit) }
 {

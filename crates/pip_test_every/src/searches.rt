@@ -20,6 +20,7 @@ fn write_program<M: Frames>(mem: &mut M, program: &[u32])
     requires count { length (M.memory mem.old) ≡ 16 }
     requires few { length program.now ≤ 1024 }
     ensures booted { HasBooted (M.memory mem.new) }
+    ensures count { length (M.memory mem.new) ≡ 16 }
 {
     for i in 0..program.len() {
         mem.set_word(Frame::new(12), i as u32, program[i]);
@@ -35,6 +36,7 @@ fn boot_program<L: Ledger>(
     requires blank { CanOpen blank.name blank.parts L.name L.parts }
     requires few { length program.now ≤ 1024 }
     ensures booted { IfOk result (λ mem. HasBooted (⟦<RawFrames as Frames>⟧.memory mem)) }
+    ensures count { IfOk result (λ mem. length (⟦<RawFrames as Frames>⟧.memory mem) ≡ 16) }
 {
     let mut steps: Steps<L> = Steps::new(blank);
     let mut mem = RawFrames::new(alloc, 16)?;
@@ -43,10 +45,11 @@ fn boot_program<L: Ledger>(
     Ok(mem)
 }
 
-/// Frames of a root with a program. Its first page is frame 12.
+/// 16 frames of a root with a program. Its first page is frame 12.
 pub(crate) fn root_with(alloc: Global, program: &[u32]) -> Result<RawFrames, AllocError>
     requires few { length program.now ≤ 1024 }
     ensures booted { IfOk result (λ mem. HasBooted (⟦<RawFrames as Frames>⟧.memory mem)) }
+    ensures count { IfOk result (λ mem. length (⟦<RawFrames as Frames>⟧.memory mem) ≡ 16) }
 {
     boot_program::<Brand>(alloc, program, Blank::new(1))
 }
@@ -139,8 +142,8 @@ fn a_root_that_spins_shows_nothing(rt: HostRuntime) -> Result<(), Fail> {
     check_search(&rt, &SPINS, 1, &[3], (2, 1, 100), 2, within, &[])
 }
 
-// `li r1 5`, `out r1`, and back to `out`: `beq r0 r0 -2`.
-const SHOWS: [u32; 3] = [0x02100005, 0x22100000, 0x1a00fffe];
+/// `li r1 5`, `out r1`, and back to `out`: `beq r0 r0 -2`.
+pub(crate) const SHOWS: [u32; 3] = [0x02100005, 0x22100000, 0x1a00fffe];
 
 // The word that it shows.
 const SHOWN: [(&str, u32, u32); 1] = [("0 0 out 0x00000005\n", 1, 2)];

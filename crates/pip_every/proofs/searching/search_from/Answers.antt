@@ -2,6 +2,8 @@
 use Rattle.std.proofs.Common.{sym, subst, length}
 use Rattle.pip_model.specs.Booted.{IsBooted}
 use Rattle.pip_model.specs.Worlds.{boot_world_with}
+use Rattle.pip_search.specs.Keys.{visits_of}
+use Rattle.pip_search.specs.Reached.{Tells}
 use Rattle.pip_search.specs.Summary.{IsTold}
 use Rattle.pip_search.specs.Ways.{witnesses_of}
 use Rattle.pip_every.specs.Menus.{menu_model}
@@ -29,3 +31,18 @@ returns-clause-told g c = λ n words b.
     (r.ensures.told (boot_world_with words n c.args.cpus) first
     (c.new-machine.ensures.stands n words (subst (λ v. IsBooted n words v) (sym c.in_ok-journal.ensures) b))
     b.laid.shape c.requires.count)
+
+pub returns-clause-explains : goal.returns-clause-explains
+returns-clause-explains g c = λ n words b.
+    let r = c.in_ok-search in
+    record {
+      first = g.F.First.words;
+      shape = c.requires.shape;
+      count = sym c.requires.count;
+      tells = subst (λ k. Tells (menu_model g.F.First.words (record {
+        scope = record { cpus = k; lines = c.args.lines.now; from = c.args.from };
+        may = c.args.may.items;
+      })) (first_moment words n c.args.cpus) (visits_of r.search) r.search.found.items r.extent)
+          c.new-machine.ensures.count (r.ensures.explains (boot_world_with words n c.args.cpus)
+          (c.new-machine.ensures.stands n words (subst (λ v. IsBooted n words v) (sym c.in_ok-journal.ensures) b)));
+    }

@@ -2,6 +2,8 @@
 use Rattle.std.proofs.Common.{◌≡◌, ◌≤◌, ◌∙◌, ◌++◌, ap, length, map, subst, sym}
 use Rattle.pip_away.specs.Blind.{left_out}
 use Rattle.pip_model.specs.Worlds.{World}
+use Rattle.pip_search.specs.Keys.{visits_of}
+use Rattle.pip_search.specs.Reached.{Tells}
 use Rattle.pip_search.specs.Systems.{IsKey}
 use Rattle.pip_search.specs.Ways.{witnesses_of}
 use Rattle.pip_every.specs.Again.{AreSaid}
@@ -120,6 +122,8 @@ returns g c =
       away = λ w other stands shape frames. rebased_away first other (left_out c.args.asked.now.blind) last all
           (moment_at w) end c.in_ok-away.away (rest ∙ same) (c.in_ok-away.ensures (moment_at w)
           (subst (λ k. IsKeyOf first k.scope c.as_slice-start.result.now (moment_at w)) (sym rest) (key w stands)));
+      explains = λ w stands. subst (λ v. Tells (menu_model first v) (moment_at w) (visits_of r.search)
+          r.search.found.items end) same (r.ensures.explains (moment_at w) (key w stands));
       traced = r.ensures.traced;
       room = subst (λ n. n ≤ c.args.limit) r.search.visits.ok.0 r.ensures.room;
     }
