@@ -16,8 +16,8 @@ use Rattle.pip_input.proofs.Taking.{all_read, line_split, took_line}
 use Rattle.pip_model.specs.Grammar.{lines_of}
 use Rattle.pip_search_commands.specs.MenuReading.{BeginsMenu, TakesBadLine, TakesGoodLines, TakesMenu}
 use Rattle.pip_search_commands.specs.MenuText.{Asks, Does, Frees, MenuSaid, Nothing, Said, any_said, can_add}
-use Rattle.pip_search_commands.specs.MenuText.{goes_on_after, line_said, menu_from, menu_of, no_menu, with_freedom, with_question}
-use Rattle.pip_search_commands.specs.MenuText.{with_line}
+use Rattle.pip_search_commands.specs.MenuText.{goes_on_after, line_said, menu_from, menu_of, no_menu, with_freedom}
+use Rattle.pip_search_commands.specs.MenuText.{with_line, with_question}
 use Rattle.pip_search_commands.specs.declared.commands.against.menu_line.MenuKind.{MenuKind}
 use Rattle.pip_search_commands.specs.declared.commands.against.menu_line.MenuKind.TheVariants.{Long, Many}
 
