@@ -143,7 +143,16 @@ class Answer(NamedTuple):
     out: LeftOut
     search: Search
     why: str
-    way: str = ""
+
+
+def text_of(lines: list[str]) -> bytes:
+    return "".join(f"{line}\n" for line in lines).encode()
+
+
+def searched(program: str, asked: Asked, lines: list[str]) -> Search:
+    """The program's own search with these lines as menu."""
+    asked = asked._replace(menu=text_of(lines))
+    return searching.read(calling.text_of(calling.lab(program), asked.words(), asked.data + asked.menu))
 
 
 def answer(program: str, asked: Asked, names: sources.Source) -> Answer:
@@ -156,9 +165,8 @@ def answer(program: str, asked: Asked, names: sources.Source) -> Answer:
     out.own.add(ROOT + 1)                        # no partition has this name: so it is asked from the first round on
     for _ in range(MOST_ROUNDS):
         lines = out.menu()
-        text = "".join(f"{line}\n" for line in lines).encode()
-        menu = against.menu_of(text).deeds
-        search = searching.searched(program, asked._replace(menu=text))
+        menu = against.menu_of(text_of(lines)).deeds
+        search = searched(program, asked, lines)
         said = next(filter(None, map(AWAY.fullmatch, search.again)))
         if said[1] == "unknown":
             return Answer(out, search, "the search didn't close: give more STATES")
@@ -170,7 +178,7 @@ def answer(program: str, asked: Asked, names: sources.Source) -> Answer:
         cpu = int(said[3])
         why = learned(world, cpu, out, menu, names)
         if why:
-            return Answer(out, search, why, f"{way or 'at once'} : {cpu}")
+            return Answer(out, search, f"{why}, in the {f'state after {way}' if way else 'first state'}")
     raise Failed(f"after {MOST_ROUNDS} rounds words are still read that are left out")
 
 
@@ -233,7 +241,7 @@ def told(found: Answer) -> list[str]:
     end = END.fullmatch(found.search.last)
     assert end
     if found.why:
-        return [f"not of every program: {found.why}{found.way and f', after {found.way}'}"]
+        return [f"not of every program: {found.why}"]
     return [f"of every program {programs_of(found.out)}: whatever they do, no line comes but "
             f"{len(found.search.lines)}, in {end[1]} states"]
 
@@ -273,7 +281,7 @@ def turns_of(program: str, asked: Asked, found: Answer, proved: str, of_menu: st
                          if (at := SWITCH.fullmatch(line.text)) and int(at[2]) == name and int(at[1]) != name), "")
              for name in sorted(found.out.own - {ROOT + 1})}
     lines = [*found.out.menu(), *(f"comes {label}" for label in turns.values() if label)]
-    search = searching.searched(program, asked._replace(menu="".join(f"{line}\n" for line in lines).encode()))
+    search = searched(program, asked, lines)
     said = {line.split(": ", 1)[0]: line.split(": ", 1)[1] for line in search.again if ": " in line}
     for name, label in turns.items():
         yield Row(f"turn of {name}", said.get(f"comes {label}", "it has none"), of_menu or f"{proved}, YesComes"
