@@ -6,7 +6,8 @@ Lines come at any time, or from a turn on that is near the one in which the root
 begins after some steps of a run, often near that turn, too.
 
 Each menu has deeds of the root's child, of each partition, and now and then of the root or of none; one in eight has a
-line that is bad or nearly so. Half ask whether labels can come again, most of which are shown by few choices."""
+line that is bad or nearly so. Half ask whether labels can come again, most of which are shown by few choices, and two
+in five leave out words, most of them of the child's pages."""
 
 import random
 
@@ -97,6 +98,7 @@ def case(seed: int) -> tuple[list[str], bytes]:
 # Menus
 
 SHORT = 60                               # labels are looked for in so many choices
+LEFT_OUT_ODDLY = ("any", "free 01", "seen 9", "seen 9 1024", "any 1 2", "free  9", "seen 9 1 ", "anyx 1")
 
 
 def put(rng: random.Random, lines: list[bytes], line: bytes) -> None:
@@ -144,6 +146,26 @@ def shown(rng: random.Random, moments: every.Moments) -> dict[every.Label, None]
     return found
 
 
+def left_out(rng: random.Random, data: bytes) -> list[bytes]:
+    """Lines that leave words out, most of them of the child's pages; now and then a bad one, or too many."""
+    try:
+        world = image.world(image.read(data))
+    except image.BadImage:
+        return []
+    rows = world.tree.nodes[ROOT].rows
+    child, *pages = (rows[CHILD // PAGE + place].page if CHILD // PAGE + place in rows else 9 for place in (0, 11, 12))
+    lines = [f"any {rng.choice((child, child, child, ROOT, rng.randrange(48)))}"] * rng.choice((0, 1, 1, 1))
+    lines += [f"free {page}" for page in pages if rng.random() < 0.8]
+    lines += [f"free {rng.randrange(48)}"] * (rng.random() < 0.2)
+    lines += [f"seen {pages[1]} {vector}" for vector in (32, SAVED, 64, 65) if rng.random() < 0.8]
+    lines += [f"seen {rng.choice(pages)} {rng.randrange(1024)}"] * (rng.random() < 0.2)
+    if rng.random() < 0.06:
+        lines.append(rng.choice(LEFT_OUT_ODDLY))
+    if rng.random() < 0.03:
+        lines += ["any 9"] * (63 + rng.randrange(3))
+    return [line.encode() for line in lines]
+
+
 def menu_case(seed: int) -> tuple[list[str], bytes]:
     """The words after the command, and an image with a menu after it; now and then a faulty one."""
     words, data = case(seed)
@@ -156,6 +178,9 @@ def menu_case(seed: int) -> tuple[list[str], bytes]:
     if len(lines) <= 100 and rng.random() < 0.5:
         for line in labels(rng, data, lines):
             put(rng, lines, line)
+        if rng.random() < 0.8:
+            for line in left_out(rng, data):
+                put(rng, lines, line)
         if rng.random() < 0.7:
             after = words.index("after") if "after" in words else len(words)
             words = ["1500", *words[1:min(after, 2)], *words[after:]]    # most of these searches close

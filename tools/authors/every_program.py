@@ -10,7 +10,7 @@ from __future__ import annotations
 
 import copy
 import re
-from collections.abc import Iterator
+from collections.abc import Iterable, Iterator
 from typing import NamedTuple
 
 from common import calling, meanings
@@ -59,13 +59,16 @@ class LeftOut:
         page = node.row(HANDLERS).page
         self.seen.setdefault((page, vector), {0}).add(world.tree.word(page, vector))
 
-    def menu(self) -> list[str]:
-        """The lines of the menu: every exit of these partitions, and what is left out."""
+    def exits(self, who: object, yields: Iterable[int] = range(NOWHERE)) -> list[str]:
+        """The deeds that are every exit of these partitions; yields to other vectors are refused."""
         stores = {(index, value) for (_, index), values in self.seen.items() for value in values}
-        return [*(f"each trap {vector} 0 0" for vector in (*FAULTS, *TRAPS)),
-                *(f"each call 8 0 {vector} {NOWHERE}" for vector in range(NOWHERE)), "each call 10", "each call 11",
-                *(f"each st {HANDLERS + 4 * index:#010x} {value:#010x}" for index, value in sorted(stores)),
-                *(f"any {name}" for name in sorted(self.own)), *(f"free {page}" for page in sorted(self.pages)),
+        return [*(f"{who} trap {vector} 0 0" for vector in (*FAULTS, *TRAPS)),
+                *(f"{who} call 8 0 {vector} {NOWHERE}" for vector in yields), f"{who} call 10", f"{who} call 11",
+                *(f"{who} st {HANDLERS + 4 * index:#010x} {value:#010x}" for index, value in sorted(stores))]
+
+    def menu(self) -> list[str]:
+        return [*self.exits("each"), *(f"any {name}" for name in sorted(self.own)),
+                *(f"free {page}" for page in sorted(self.pages)),
                 *(f"seen {page} {index}" for page, index in sorted(self.seen))]
 
 
@@ -152,7 +155,7 @@ def text_of(lines: list[str]) -> bytes:
 def searched(program: str, asked: Asked, lines: list[str]) -> Search:
     """The program's own search with these lines as menu."""
     asked = asked._replace(menu=text_of(lines))
-    return searching.read(calling.text_of(calling.lab(program), asked.words(), asked.data + asked.menu))
+    return searching.read(calling.text_of(program, asked.words(), asked.data + asked.menu))
 
 
 def answer(program: str, asked: Asked, names: sources.Source) -> Answer:
@@ -223,14 +226,12 @@ def taken(search: Search, out: LeftOut) -> str:
 
 
 def programs_of(out: LeftOut) -> str:
-    """The programs of which it is said."""
+    """Of which programs it is said."""
     own = sorted(out.own - {ROOT + 1})
-    entries: dict[tuple[int, frozenset[int]], None] = {}
-    for (_, index), values in sorted(out.seen.items()):
-        entries[index, frozenset(values)] = None
-    kept = "; ".join(f"entry {index} is {' or '.join(f'{value:#010x}' for value in sorted(values))}"
+    entries = dict.fromkeys((index, frozenset(values)) for (_, index), values in sorted(out.seen.items()))
+    kept = "; ".join(f"entry {index} of their handler tables is {' or '.join(map('{:#010x}'.format, sorted(values)))}"
                      for index, values in entries)
-    return f"of partitions {', '.join(map(str, own))}{kept and f', as long as {kept}'}"
+    return f"whatever the programs of {' and '.join(map(str, own))} are{kept and f', as long as {kept}'}"
 
 
 def told_of(program: str, asked: Asked, names: sources.Source) -> list[str]:
@@ -241,9 +242,8 @@ def told(found: Answer) -> list[str]:
     end = END.fullmatch(found.search.last)
     assert end
     if found.why:
-        return [f"not of every program: {found.why}"]
-    return [f"of every program {programs_of(found.out)}: whatever they do, no line comes but "
-            f"{len(found.search.lines)}, in {end[1]} states"]
+        return [f"no: {found.why}"]
+    return [f"yes: {programs_of(found.out)}, no line comes but {len(found.search.lines)}, in {end[1]} states"]
 
 
 class Row(NamedTuple):
@@ -276,16 +276,25 @@ def lines_of(search: Search, proved: str, of_menu: str) -> Iterator[Row]:
 
 
 def turns_of(program: str, asked: Asked, found: Answer, proved: str, of_menu: str) -> Iterator[Row]:
-    """Whether each partition's turn comes."""
-    turns = {name: next((f"{line.cpu} {line.text}" for line in found.search.lines
-                         if (at := SWITCH.fullmatch(line.text)) and int(at[2]) == name and int(at[1]) != name), "")
-             for name in sorted(found.out.own - {ROOT + 1})}
-    lines = [*found.out.menu(), *(f"comes {label}" for label in turns.values() if label)]
-    search = searched(program, asked, lines)
-    said = {line.split(": ", 1)[0]: line.split(": ", 1)[1] for line in search.again if ": " in line}
-    for name, label in turns.items():
-        yield Row(f"turn of {name}", said.get(f"comes {label}", "it has none"), of_menu or f"{proved}, YesComes"
-                  if label else "no line enters it")
+    """Whether the turn of each partition comes, which waits in its own turns, whatever the programs of the others."""
+    switches = [(line, int(at[1]), int(at[2]), int(at[3])) for line in found.search.lines
+                if (at := SWITCH.fullmatch(line.text))]
+    yields = sorted({vector for line, _, target, vector in switches if target == ROOT and line.text.startswith("call")})
+    own = sorted(found.out.own - {ROOT + 1})
+    for name in own:
+        label = next((f"{line.cpu} {line.text}" for line, source, target, _ in switches
+                      if target == name != source), "")
+        if not label:
+            yield Row(f"turn of {name}", "it has none", of_menu or f"{proved}, ClosedNamesMenus")
+            continue
+        others = [line for other in own if other != name for line in found.out.exits(other, yields)]
+        lines = [*others, f"{name} ld {HANDLERS:#010x}", f"comes {label}"]
+        if len(lines) > against.MOST_DEEDS:
+            yield Row(f"turn of {name}", "unknown", f"a menu has {against.MOST_DEEDS} deeds at most")
+            continue
+        said = searched(program, asked, lines).again[-1].removeprefix(f"comes {label}: ")
+        law = "YesComes" if said.startswith("within") else "NoIsAvoided"
+        yield Row(f"turn of {name}", said, f"{proved}, {law}" if said != "unknown" else "the search didn't close")
 
 
 def longest(asked: Asked, found: Answer, proved: str) -> Row:
