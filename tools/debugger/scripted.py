@@ -13,8 +13,8 @@ from common import calling
 from . import wire
 
 PROGRAM = os.environ.get("PIP") or calling.PROVED
-PATHS = {name: os.path.join(calling.REPOSITORY, path) for name, path in (
-    ("TOP", ""), ("MONITOR", "examples/monitor.s"), ("FIRST", "examples/first.pip"),
+PATHS = {name: os.path.normpath(os.path.join(calling.REPOSITORY, path)) for name, path in (
+    ("TOP", "."), ("MONITOR", "examples/monitor.s"), ("FIRST", "examples/first.pip"),
     ("RACE", "tools/authors/race.asmx"))}
 NAMED = re.compile(r"\$([A-Z]+)\b")
 VALUE = re.compile(r'"\$(\w[\w:]*)"')
