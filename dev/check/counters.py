@@ -12,7 +12,7 @@ import os
 import re
 from collections.abc import Iterator
 
-from common.blocks import blocks, parted
+from common.blocks import blocks, escaped, parted
 from .running import REPOSITORY, Differs, planted
 from .sources import sources
 
@@ -36,25 +36,8 @@ HARMLESS = re.compile(r"""
 
 # The lines of pip_base that define the counter, those of pip_journal that let a caller pick the words of a memory and
 # that copy them, and those of the search.
-DEFINITION = {
-    os.path.join("crates", "pip_journal", "src", "first.rt"): ("use std::marker::Brand;", "impl First for Brand {"),
-    os.path.join("crates", "pip_journal", "src", "frames.rt"):
-        ("use std::sync::ledger::{Blank, Ledger};", "blank: Blank,", "requires blank {"),
-    os.path.join("crates", "pip_journal", "src", "journal.rt"):
-        ("use std::marker::{Brand, PhantomData};", "use std::sync::ledger::{Blank, Ledger};",
-         "copied_uncounted::<Brand>(alloc, &first, Blank::new(1))"),
-    os.path.join("crates", "pip_every", "src", "later.rt"):
-        ("use std::sync::ledger::{Blank, Ledger};", "blank: Blank,", "requires ledger {"),
-    os.path.join("crates", "pip_every", "src", "searching.rt"):
-        ("use std::marker::Brand;", "use std::sync::ledger::{Blank, Ledger};", "blank: Blank,", "requires ledger {",
-         "booted_later::<Brand>(alloc, &mem, cpus, Blank::new(1))", "search_from::<Brand, Brand>(",
-         "limit,\n        Blank::new(1),"),
-    os.path.join("crates", "pip_every", "src", "parts.rt"):
-        ("use std::marker::Brand;", "use std::sync::ledger::{Blank, Ledger};", "blank: Blank,", "requires ledger {",
-         "part_from::<Brand, Brand>(", "marks,\n        Blank::new(1),"),
-    os.path.join("crates", "pip_base", "src", "steps.rt"):
-        ("use std::sync::ledger::{Blank, Book, Ledger, Share};", "pub fn new(blank: Blank) -> Self"),
-}
+DEFINITION = {path: [escaped(line).decode() for line in text.splitlines()]
+              for path, text in blocks("data/counting.txt", __file__).items()}
 
 
 def step_counters(program: str) -> None:

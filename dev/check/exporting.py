@@ -4,17 +4,19 @@ does what the program does."""
 from __future__ import annotations
 
 import functools
+import html
 import os
 import re
 import subprocess
 import tempfile
+import urllib.parse
 from collections.abc import Callable, Sequence
 from pathlib import Path
 
 from common import calling
 from exporter import export
 from .running import (REPOSITORY, Differs, Skipped, agree, called, contents, copied, expect, finished, generated,
-                      needed, part, run, text_of, write)
+                      needed, part, paths, run, text_of, write)
 
 SECONDS = 900            # cargo builds everything
 CASES = 200              # of each command
@@ -22,6 +24,7 @@ CASES_OF_REGISTRY = 20
 FIRST_SEED = 500_000     # those of the comparison with the reference begin with 1
 EDITION_KNOWN = (1, 87)  # the first cargo whose Rust has all that the export uses
 WARNINGS = {"RUSTFLAGS": "-Dwarnings"}
+MOVED = re.compile(r'location\.replace\("([^"]*)"')
 OWN = '[package]\nname = "own"\nedition = "2024"\n\n[workspace]\n\n'
 
 
@@ -51,11 +54,30 @@ def by_cargo(program: str) -> None:
     told = cargo(place, "test", "--workspace", **WARNINGS)
     if passed(told) != tests_in(place):
         raise Differs(f"the export has {tests_in(place)} tests, and {passed(told)} of them passed")
-    cargo(place, "doc", "--no-deps", "--quiet", RUSTDOCFLAGS="-Dwarnings")
+    cargo(place, "doc", "--quiet", RUSTDOCFLAGS="-Dwarnings")
+    definitions_are_found(os.path.join(place, "target", "doc"))
     built = programs(place)
     check_example(built)
     check_own_crate(place)
     agree("the exported program", calls_of(built), program, generated(FIRST_SEED, CASES))
+
+
+def definitions_are_found(docs: str) -> None:
+    """In the pages of rustdoc each link to a definition or a ghost item leads to one. A page that was moved names its
+    new place, and hands on what is after the #."""
+    pages = {os.path.normpath(path): text_of(path) for path in paths(os.path.join(docs, "**", "*.html"))}
+    anchors = {path: {html.unescape(name) for name in re.findall(r' id="([^"]+)"', text)}
+               for path, text in pages.items()}
+    links = {(path, *urllib.parse.unquote(html.unescape(link)).split("#")) for path, text in pages.items()
+             for link in re.findall(r'href="([^"]*#(?:def|ghost)\.[^"]*)"', text)}
+    for path, place, anchor in links:
+        target = os.path.normpath(os.path.join(os.path.dirname(path), place)) if place else path
+        if moved := MOVED.search(pages.get(target, "")):
+            target = os.path.normpath(os.path.join(os.path.dirname(target), moved[1]))
+        if anchor not in anchors.get(target, ()):
+            raise Differs(f"rustdoc: {os.path.relpath(path, docs)} leads to {place}#{anchor}, which isn't there")
+    if not links:
+        raise Differs("rustdoc: no clause leads to a definition")
 
 
 def of_registry(program: str) -> None:

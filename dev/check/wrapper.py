@@ -56,11 +56,6 @@ class Checkout:
             pass
         os.utime(self.path(name), None if seconds is None else (seconds, seconds))
 
-    def age(self, seconds: float, names: Sequence[str] = ("crates/pip/out/pip", "crates/pip/out/sources-seen")) -> None:
-        """The last build began, and ended, at this time."""
-        for name in names:
-            os.utime(self.path(name), (seconds, seconds))
-
     def begin(self, *words: str, command: str | None = None, path: str | None = None, stderr: int = subprocess.PIPE,
               stdout: int | IO[bytes] = subprocess.PIPE, cwd: str | None = None, **settings: str) -> Process:
         environment = dict(os.environ, COUNT=self.path("count"), **settings)
@@ -83,7 +78,6 @@ class Checkout:
 
 
 BUILDS = "proving and building pip; this takes a quarter of an hour or more, and what the prover says goes into "
-OF_LAB = BUILDS.replace("building pip", "building lab")
 BY_CARGO = ("building pip and the lab of their export by cargo; this takes about a minute, and what cargo says goes "
             "into ")
 OF_CARGO = "unproved: cargo built this program of the same text, and nothing is proved of it\n"
@@ -102,50 +96,46 @@ def expect_told(what: str, got: Ended, output: str, status: int, *told: str, bui
         raise Differs(f"./pip, {what}, says {got[1]!r}")
 
 
-def expect_built(what: str, got: Ended, builds: int = 1) -> None:
-    expect_told(what, got, "ran script\n", 7, builds=builds)
-    expect(f"{what}, that it says so", got[1].startswith(BUILDS), bool(builds))
-
-
 def wrapper(program: str) -> None:
     with tempfile.TemporaryDirectory() as place:
-        for act in (builds_when_needed, builds_the_lab, tells_its_progress, sees_an_edit_during_the_build,
-                    says_where_it_fails, is_stopped, is_ended, runs_unproved, hands_on, says_what_is_built,
-                    says_its_version, says_its_forms, builds_nothing_for_unknown_words, of_an_unproved_release,
-                    follows_a_link):
+        for number, (title, text) in enumerate(blocks("data/wrapper.txt", __file__).items()):
+            play(Checkout(os.path.join(place, str(number))), title, text)
+        for act in (tells_its_progress, says_where_it_fails, is_stopped, is_ended, runs_without_cargo, hands_on,
+                    says_its_forms, builds_nothing_for_unknown_words, follows_a_link):
             act(Checkout(os.path.join(place, act.__name__)))
     forms_are_the_programs(program)
 
 
-def builds_when_needed(checkout: Checkout) -> None:
-    expect_built("the first time", checkout.run("script"))
-    if "the prover's log" not in text_of(checkout.path("build.log")):
-        raise Differs("./pip: the log isn't in build.log")
-    expect("built", checkout.run("run", "0", "1"), ("ran run 0 1\n", "", 7, 0))
-    for name in SOURCES:
-        checkout.age(2000)
-        checkout.touch(name, 3000)
-        expect_built(f"after a change of {name}", checkout.run("script"))
-        checkout.touch(name, 1000)
-    checkout.age(2000)
-    checkout.touch("crates.txt", 3000)
-    expect_built("where a build changes nothing", checkout.run("script", UNCHANGED="1"))
-    expect_built("after a build that changed nothing", checkout.run("script"), builds=0)
+def play(checkout: Checkout, title: str, text: str) -> None:
+    """Does what the lines of a block say, one after the other."""
+    told = text.format(top=checkout.place, version=text_of("VERSION").strip(), building="proving and building",
+                       long=BUILDS.split("; ")[1], by_cargo=BY_CARGO, of_cargo=OF_CARGO.strip(),
+                       of_reference=OF_REFERENCE.strip())
+    for step in re.split(r"\n(?! )", told.strip()):
+        call, *due = (line.strip() for line in step.split("\n"))
+        word, *rest = call.split(" ")
+        if word == "at":
+            for path in rest[1:]:
+                checkout.touch(path, float(rest[0]))
+        elif word == "gone":
+            for path in rest:
+                os.remove(checkout.path(path))
+        else:
+            called_as(checkout, f"{title}: {call}", call, due)
 
 
-def builds_the_lab(checkout: Checkout) -> None:
-    """By a run of its own, over an input of which the program says that no part is there."""
-    lab = checkout.path("lab")
-    expect_told("the lab", checkout.run("merge", command=lab, STATUS="9"), "ran merge\n", 7, OF_LAB, builds=1)
-    expect("the lab, built", checkout.run("every", "1", command=lab), ("ran every 1\n", "", 7, 0))
-    expect_built("after the lab", checkout.run("script"))
-    os.remove(checkout.path("crates/pip_lab/out/pip_lab"))
-    expect_told("a lab that isn't built", checkout.run("merge", command=lab, STATUS="2"), "", 11,
-                "lab wasn't built. The end of")
-    expect_told("the lab, unproved", checkout.run("--unproved", "merge", command=lab), "cargo ran merge\n", 8, BY_CARGO,
-                OF_CARGO, builds=1)
-    expect("the program, unproved, after that", checkout.run("--unproved", "script"),
-           ("cargo ran script\n", OF_CARGO, 8, 0))
+def called_as(checkout: Checkout, what: str, call: str, due: list[str]) -> None:
+    """Makes a call, which has to end, to build and to say as it is due, if anything is."""
+    settings, command, words = re.split(r"(?:^| )\./(pip|lab) ", call)
+    got = checkout.run(*words.split(" "), command=checkout.path(command),
+                       **dict(setting.split("=", 1) for setting in settings.split()))
+    if due:
+        status, builds, *output = due[0].split(" ", 2)
+        expect_told(what, got, "".join(f"{line}\n" for one in output for line in one.split("\\n")), int(status),
+                    *(line[2:] for line in due[1:] if line[0] == ":"), builds=int(builds))
+    for line in due[1:]:
+        if line[0] == "=":
+            expect(f"{what}, its messages", got[1].strip(), line[2:])
 
 
 def tells_its_progress(checkout: Checkout) -> None:
@@ -161,16 +151,10 @@ def tells_its_progress(checkout: Checkout) -> None:
             raise Differs(f"./pip, while it builds, says {messages!r}")
 
 
-def sees_an_edit_during_the_build(checkout: Checkout) -> None:
-    expect_built("with an edit during the build", checkout.run("script", EDITED=checkout.path(SOURCES[0])))
-    expect_built("after an edit during the build", checkout.run("script"))
-    expect_built("after the build of that edit", checkout.run("script"), builds=0)
-
-
 def says_where_it_fails(checkout: Checkout) -> None:
-    """It isn't built, there is no `rt`, and where the folder of the build should be there is a file."""
-    expect_told("where it isn't built", checkout.run("script", REFUSED="1"), "", 11, BUILDS, "wasn't built. The end of",
-                "prover's log")
+    """A build that fails leaves nothing; there is no `rt`; and where the folder of the build should be there is a file.
+    """
+    checkout.run("script", REFUSED="1")
     expect("what a build that failed leaves", left_of_builds(checkout), [])
     path = "/usr/bin:/bin"
     if not shutil.which("rt", path=path):
@@ -192,7 +176,7 @@ def in_turn(program: str) -> None:
         checkout = Checkout(os.path.join(place, "0"))
         first = begun(checkout, "8")
         second = checkout.begin("script")
-        expect_built("the first of two", checkout.ended(first))
+        expect_told("the first of two", checkout.ended(first), "ran script\n", 7, BUILDS, builds=1)
         expect_told("the second of two", checkout.ended(second), "ran script\n", 7, "another ./pip builds here",
                     builds=0)
 
@@ -212,7 +196,7 @@ def is_stopped(checkout: Checkout) -> None:
     stopped = begun(checkout, "100")
     os.killpg(stopped.pid, signal.SIGINT)
     expect_told("stopped", checkout.ended(stopped), "", 130, "stopped; what was done is kept")
-    expect_built("after it was stopped", checkout.run("script"))
+    expect_told("after it was stopped", checkout.run("script"), "ran script\n", 7, BUILDS, builds=1)
 
 
 def is_ended(checkout: Checkout) -> None:
@@ -226,26 +210,14 @@ def is_ended(checkout: Checkout) -> None:
     expect("what a build that was ended leaves", left_of_builds(checkout), [])
 
 
-def runs_unproved(checkout: Checkout) -> None:
-    """By cargo, by the reference where cargo can't, and never without a word."""
-    expect_told("unproved", checkout.run("--unproved", "run", "1", "1"), "cargo ran run 1 1\n", 8, BY_CARGO, OF_CARGO,
-                builds=1)
-    expect("unproved, built", checkout.run("--unproved", "script"), ("cargo ran script\n", OF_CARGO, 8, 0))
-    for name in (SOURCES[0], "dev/exporter/new.py"):
-        checkout.age(2000, ("out/rust/target/release/pip", "out/sources-seen"))
-        checkout.touch(name, 3000)
-        expect(f"unproved, after a change of {name}", checkout.run("--unproved", "script")[2:], (8, 1))
-        checkout.touch(name, 1000)
-    checkout.touch(SOURCES[0])
-    expect_told("unproved, where cargo can't", checkout.run("--unproved", "script", REFUSED="1"),
-                "the reference ran script\n", 9, "wasn't built. The end of", "cargo's log", OF_REFERENCE)
-    expect("what is left of it", left_of_builds(checkout), [])
-    os.makedirs(checkout.path("few"))
-    for name in ("sh", "readlink", "dirname", "find", "head"):
-        os.symlink(shutil.which(name) or name, checkout.path("few/" + name))
+def runs_without_cargo(checkout: Checkout) -> None:
+    """Unproved, by the reference, and by nothing where there is no Python."""
     few = checkout.path("few")
+    os.makedirs(few)
+    for name in ("sh", "readlink", "dirname", "find", "head"):
+        os.symlink(shutil.which(name) or name, os.path.join(few, name))
     expect_told("unproved, without cargo and Python", checkout.run("--unproved", "script", path=few), "", 11)
-    os.symlink(sys.executable, checkout.path("few/python3"))
+    os.symlink(sys.executable, os.path.join(few, "python3"))
     expect("unproved, without cargo", checkout.run("--unproved", "script", path=few)[:3],
            ("the reference ran script\n", "cargo isn't in the PATH\n" + OF_REFERENCE, 9))
 
@@ -271,32 +243,6 @@ def hands_on(checkout: Checkout) -> None:
         expect(f"after signal {number}", checkout.ended(begun)[2], -number)
         if os.path.exists("/proc/" + running):
             raise Differs(f"./pip, after signal {number}, leaves the program running")
-
-
-def says_what_is_built(checkout: Checkout) -> None:
-    """--built builds nothing."""
-    expect("--built, where nothing is", checkout.run("--built"), ("", "", 0, 0))
-    checkout.run("script")
-    proved = f"proved {checkout.path('crates/pip/out/pip')}\n"
-    expect("--built", checkout.run("--built"), (proved, "", 0, 0))
-    checkout.run("--unproved", "script")
-    by_cargo = f"unproved {checkout.path('out/rust/target/release/pip')}\n"
-    expect("--built, both", checkout.run("--built"), (proved + by_cargo, "", 0, 0))
-    checkout.touch(SOURCES[0], time.time() + 100)
-    expect("--built, with a newer source", checkout.run("--built"), ("", "", 0, 0))
-
-
-def says_its_version(checkout: Checkout) -> None:
-    """The version, the commit, the kit's line, and what is built."""
-    states = ("not built", None), ("not proved: built by cargo", ["--unproved", "script"]), ("proved", ["script"])
-    for name, dues in ("pip", states), ("lab", states[1:]):      # cargo builds both at once
-        path, version = checkout.path(name), text_of("VERSION").strip()
-        for due, words in dues:
-            if words:
-                checkout.run(*words, command=path)
-            lines = checkout.run("--version", command=path)
-            expect("--version", (lines[0].splitlines(), *lines[1:]),
-                   ([f"{name} {version}", "commit of no repository", "the kit's line", due], "", 0, 0))
 
 
 def says_its_forms(checkout: Checkout) -> None:
@@ -329,15 +275,6 @@ def forms_are_the_programs(program: str) -> None:
         usage = run([path])[0].decode().split(":", 1)[1].split(" ", 2)[2].strip().split(" | ")
         told = re.findall(rf"^\./{name} ([a-z]+)", text_of(f"tools/common/{name}.txt"), re.M)
         expect(f"the forms of {name}", sorted(set(told)), sorted({form.split(" ")[0] for form in usage}))
-
-
-def of_an_unproved_release(checkout: Checkout) -> None:
-    """A release that says that it is unproved runs its program with neither kit nor cargo, and says so."""
-    checkout.run("--unproved", "script")
-    checkout.touch("UNPROVED")
-    os.remove(checkout.path("bin/rt"))
-    os.remove(checkout.path("bin/cargo"))
-    expect("of an unproved release", checkout.run("script"), ("cargo ran script\n", OF_CARGO, 8, 0))
 
 
 def follows_a_link(checkout: Checkout) -> None:

@@ -32,6 +32,7 @@ CHECK_PARTS = HERE / "check_parts"
 SORTED = {**os.environ, "LC_ALL": "C"}
 SEARCH_BYTES, PART_BYTES, LINE_BYTES = 50, 300, 90        # of memory for a state, and of disk for a line, about
 MOST = (1 << 32) - 1
+NO_MEMORY = (5, -signal.SIGABRT)         # how the search ends where it gets none
 MEANINGS = {"open": "a key that a part asks no part has: a part is missing, or two states had one hash",
             "twice": "two parts have one key: take the folder away, and begin again",
             "apart": "the lines are of different certificates: take the folder away, and begin again",
@@ -122,6 +123,8 @@ def cut(given: argparse.Namespace, data: bytes, folder: Path) -> list[Path]:
         said = done.stdout.decode().strip()
         if said.startswith("stopped "):
             raise Failed(f"there are more than {given.states} states: give more --states")
+        if done.returncode in NO_MEMORY:
+            raise Failed(f"the search had no memory: it takes about {SEARCH_BYTES} bytes a state")
         if done.returncode:
             raise Failed(f"the search ended with status {done.returncode}: {said}")
         (folder / "image").write_bytes(data)

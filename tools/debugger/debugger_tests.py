@@ -11,6 +11,7 @@ import tempfile
 import unittest
 
 from common import calling
+from common.blocks import blocks, listed
 from common.calling import Failed
 from common.machine import image as images, script
 from common.machine.model import World
@@ -27,28 +28,7 @@ FIRST = os.path.join(EXAMPLES, "first.pip")
 SCRIPTS = ("first.pip", "rights.pip", "lines_and_siblings.pip", os.path.join("tutorial", "07_grandchild.pip"))
 LONGEST = 2000                   # steps of a comparison
 Edit = tuple[object, ...]
-SESSION = """break child
-continue
-delete 1
-watch SEEN+4096
-words SEEN+4096
-translate SEEN+4096
-continue
-catch park
-continue
-reverse
-nonsense
-words nowhere
-reg 1
-every 100000
-way 1
-continue
-check
-until 0
-seed 5
-tree
-check
-"""
+TEXTS = blocks("debugger.txt", __file__)
 
 
 def script_world(text: bytes, last: int) -> World:
@@ -124,45 +104,6 @@ class Compared(WithStates):
                 self.assertEqual(debugger.differing(), "", (schedule, step))
         self.assertRaises(Failed, Debugger, PROGRAM, self.states, RETRY.replace("retry.s", "tutorial/11_sum.s"),
                           "native 8")
-
-
-# A child with a page at 0x10000000, which is taken away and given again.
-REMAPPED = """.frames 64
-.cpus 1
-.page 0x400000
- la r1 0x404000
- la r2 0x405000
- la r3 0x406000
- la r4 0x407000
- la r5 0x408000
- sys 0
- la r3 0x409000
- la r7 0x40a000
- stw r7 r3 0
- la r8 0x40b000
- stw r8 r7 0
- la r1 0x404000
- la r2 0x10000000
- sys 3
- la r1 0x410000
- la r2 0x404000
- la r3 0x10000000
- li r4 3
- sys 5
- la r1 0x404000
- la r2 0x10000000
- sys 6
- la r1 0x411000
- la r2 0x404000
- la r3 0x10000000
- li r4 3
- sys 5
-stop: j stop
-.page 0x410000
- .word 7
-.page 0x411000
- .word 8
-"""
 
 
 class BackAsForward(WithStates):
@@ -266,21 +207,11 @@ class Requests(WithStates):
     """What makes no sense is refused, and the process stays."""
 
     def test_refusals(self) -> None:
-        wrong = ("", "nothing", "go", "go -1", "go 10000001", "load seed 1 100 /nowhere", "load seed 1 100 /",
-                 "load seed 0 100 x", "load seed 1 0 x",
-                 "load native 9 100 x", "load slots 1 10000001 100 x", f"load seed 1 100 {RACE}", "words 64 0 1",
-                 "words 0 1000 25",
-                 "words 2147483648 4294967295 4294967295", "translate 2 0", "changed 5", "way 4", "way raise16",
-                 "way x", "edit seed 0", "edit raise 16",
-                 "edit plan 16 0 0", "edit register 2 0 0", "edit register 0 17 0", "edit store 9 0 0", "break x",
-                 "break 1 place 3", "break 1 if r1 ~ 2",
-                 "watch 1 word 1:1 1025", "watch 1 frame 1 1", "watch 1 register 1 x 1", "load script 10 /nowhere",
-                 f"load script 10 {RACE}")
         self.assertRaises(Failed, self.states.ask, "go", 1)
         Debugger(PROGRAM, self.states, RACE)
-        for words in wrong:
+        for words in listed(TEXTS["refused"].replace("RACE", RACE)):
             with self.subTest(words=words):
-                self.assertRaises(Failed, self.states.ask, words)
+                self.assertRaises(Failed, self.states.ask, words.decode())
         self.assertEqual(self.states.go(100).step, 100)
         odd = stops_of("watch 1 word 5000:0 3", "watch 2 address 999 0 3", "watch 4 word 0:4294967295 2",
                        "watch 5 register 999 0 1", "watch 6 register 1 99 3", "line 3 ^ " + "* " * 40)
@@ -346,7 +277,7 @@ class Changes(WithStates):
         """A page that is taken away and given again at an address changes what is there; the word of the frame
         stays."""
         with tempfile.NamedTemporaryFile("w", suffix=".asmx") as file:
-            file.write(REMAPPED)
+            file.write(TEXTS["remapped"])
             file.flush()
             debugger = Debugger(PROGRAM, self.states, file.name)
             debugger.run(debugger.told_stops(), 200)
@@ -429,11 +360,8 @@ class Typed(unittest.TestCase):
     def test_session(self) -> None:
         words = [sys.executable, "-B", os.path.join(calling.REPOSITORY, "tools", "debug"), RACE, "3", "--program",
                  calling.direct(PROGRAM)]
-        done = subprocess.run(words, input=SESSION, stdout=subprocess.PIPE, stderr=subprocess.STDOUT, text=True,
+        done = subprocess.run(words, input=TEXTS["typed"], stdout=subprocess.PIPE, stderr=subprocess.STDOUT, text=True,
                               timeout=60)
         self.assertEqual(done.returncode, 0, done.stdout)
-        for text in ("1: break at child", "break 1: child", "watch 2: SEEN+4096", "stw r1 r4 0", "0xffc01000",
-                     "'nonsense' is no word", "is no number and no name", "states ", "this is the end of the way",
-                     "no command of the program has this state",
-                     "the program has the same tree and core after step 0, by seed 5"):
-            self.assertIn(text, done.stdout)
+        for text in listed(TEXTS["said"]):
+            self.assertIn(text.decode(), done.stdout)

@@ -13,43 +13,13 @@ import xml.etree.ElementTree as xml
 import zipfile
 
 from common import calling
+from common.blocks import blocks
 from . import vsix
 
 HERE = os.path.dirname(os.path.abspath(__file__))
 SOURCE = ".frames 16\n.cpus 1\n.page 0x400000\nstart: jmp start\nsys 5\n"
 WRONG, CALL = "'jmp' is no instruction; did you mean jal or j?", "call 5, **addVAddr**: v, d, cv, rights"
-IN_NEOVIM = """
-vim.cmd("edit a.asmx")
-vim.wait(20000, function() return #vim.diagnostic.get(0) > 0 end, 50)
-local at = { textDocument = { uri = vim.uri_from_bufnr(0) }, position = { line = 4, character = 4 } }
-local _, told = next(vim.lsp.buf_request_sync(0, "textDocument/hover", at, 20000))
-local found = { vim.bo.filetype, vim.diagnostic.get(0)[1].message, told.result.contents.value,
-  vim.fn.synIDattr(vim.fn.synID(5, 1, 1), "name") }
-vim.cmd("edit a.pip")
-table.insert(found, vim.bo.filetype)
-vim.cmd("edit other.s")
-table.insert(found, vim.bo.filetype)
-local dap = require("dap")
-table.insert(found, dap.adapters.pip.args[2])
-io.stdout:write(vim.fn.json_encode(found))
-vim.cmd("qa!")
-"""
-IN_EMACS = """
-(require 'eglot)
-(find-file "a.asmx")
-(call-interactively 'eglot)
-(flymake-mode 1)
-(flymake-start)
-(dotimes (_ 200) (unless (flymake-diagnostics) (accept-process-output nil 0.1)))
-(goto-char (point-min))
-(forward-line 4)
-(forward-char 4)
-(let ((told (jsonrpc-request (eglot-current-server) :textDocument/hover (eglot--TextDocumentPositionParams))))
-  (princ (json-encode (list (symbol-name major-mode) (flymake-diagnostic-text (car (flymake-diagnostics)))
-                            (plist-get (plist-get told :contents) :value)
-                            (progn (find-file "a.pip") (symbol-name major-mode))
-                            (progn (find-file "other.s") (symbol-name major-mode))))))
-"""
+SCRIPTS = blocks("in_editors.txt", __file__)
 
 
 def has_eglot() -> bool:
@@ -100,7 +70,7 @@ class TestEditors(unittest.TestCase):
     @unittest.skipUnless(shutil.which("nvim"), "no nvim")
     def test_neovim(self) -> None:
         home, environment = self.home({
-            ".config/nvim/init.lua": f'dofile("{HERE}/pip.lua")\n', "try.lua": IN_NEOVIM,
+            ".config/nvim/init.lua": f'dofile("{HERE}/pip.lua")\n', "try.lua": SCRIPTS["neovim"],
             ".config/nvim/lua/dap.lua": "return { adapters = {}, configurations = {} }\n"})
         done = subprocess.run(["nvim", "--headless", "-c", "luafile try.lua"], cwd=home, env=environment, timeout=120,
                               stdout=subprocess.PIPE, stderr=subprocess.PIPE)
@@ -110,7 +80,7 @@ class TestEditors(unittest.TestCase):
 
     @unittest.skipUnless(has_eglot(), "no emacs with eglot")
     def test_emacs(self) -> None:
-        home, environment = self.home({"try.el": IN_EMACS})
+        home, environment = self.home({"try.el": SCRIPTS["emacs"]})
         done = subprocess.run(["emacs", "--batch", "--eval", "(package-initialize)", "-l", os.path.join(HERE, "pip.el"),
                                "-l", "try.el"], cwd=home, env=environment, timeout=120, stdout=subprocess.PIPE,
                               stderr=subprocess.PIPE)

@@ -11,6 +11,7 @@ import subprocess
 import unittest
 from typing import Any
 
+from common.blocks import blocks, escaped
 from common.machine import instructions
 
 HERE = os.path.dirname(os.path.abspath(__file__))
@@ -29,8 +30,8 @@ def patterns(told: Any) -> list[tuple[str, re.Pattern[str]]]:
     return [(pattern["name"], re.compile(pattern["match"])) for pattern in told["patterns"]]
 
 
-GRAMMAR = grammar("pip.tmLanguage.json")
-PATTERNS, OF_ASMX = patterns(GRAMMAR), patterns(grammar("asmx.tmLanguage.json"))
+PATTERNS, OF_ASMX = (patterns(grammar(f"{name}.tmLanguage.json")) for name in ("pip", "asmx"))
+LINES = blocks("grammar.txt", __file__)
 
 
 def tokens(line: str, patterns: list[tuple[str, re.Pattern[str]]] = PATTERNS) -> list[tuple[str | None, str]]:
@@ -49,9 +50,9 @@ def tokens(line: str, patterns: list[tuple[str, re.Pattern[str]]] = PATTERNS) ->
     return found
 
 
-def scopes(line: str) -> list[str | None]:
-    """The scopes of a line's parts, each without what is after its second dot."""
-    return [name and ".".join(name.split(".")[:-1]) for name, _ in tokens(line)]
+def scopes(line: str, patterns: list[tuple[str, re.Pattern[str]]] = PATTERNS) -> list[str]:
+    """The scopes of a line's parts, each without what is after its last dot."""
+    return [(name or "").rpartition(".")[0] for name, _ in tokens(line, patterns)]
 
 
 def is_known(line: str) -> bool:
@@ -81,24 +82,6 @@ class TestOfAsmx(unittest.TestCase):
             for number, line in enumerate(read(path).split("\n"), 1):
                 if any(name is None for name, _ in tokens(line, OF_ASMX)):
                     self.fail(f"{os.path.relpath(path, REPOSITORY)}, line {number}: {tokens(line, OF_ASMX)}")
-
-    def test_what_a_source_adds(self) -> None:
-        scopes = [[(name or "").rsplit(".", 1)[0] for name, _ in tokens(line, OF_ASMX)] for line in
-                  (".equ A B+8*4096", "  la r1 A+4   # where", "j next", ".page A at 0xffc00000",
-                   ".handler 63 0x400 child r6=0x10", "a: out r1", ".include ../x.s", ".may each ld A",
-                   ".again 0 out 0x00000005", ".never [turn] == 5 and r1 in 1 A", ".always 44:pc <= f13:2")]
-        number, name, operator = "constant.numeric", "variable.other.label", "keyword.operator"
-        directive, mnemonic = "keyword.control.directive", "support.function.mnemonic"
-        register, word = "variable.language.register", "keyword.other.word"
-        self.assertEqual(scopes, [[directive, name, name, operator, number, operator, number],
-                                  [mnemonic, register, name, operator, number, "comment.line.number-sign"],
-                                  [mnemonic, name],
-                                  [directive, name, word, number],
-                                  [directive, number, number, name, register, operator, number],
-                                  ["entity.name.label", mnemonic, register], [directive, "string.unquoted.path"],
-                                  [directive, word, name, name], [directive, number, mnemonic, number],
-                                  [directive, operator, name, operator, operator, number, word, register, word, number,
-                                   name], [directive, number, operator, register, operator, name, operator, number]])
 
     def test_what_is_wrong_has_no_colour(self) -> None:
         for line in ("ld r1 r0 4", "li r17 00", ".equ A 0X1"):
@@ -163,13 +146,11 @@ class TestGrammar(unittest.TestCase):
         for name in instructions.OPCODES:
             self.assertEqual(scopes(name + " r1")[0], "support.function.mnemonic", name)
 
-    def test_operands(self) -> None:
-        self.assertEqual(scopes("addi r1 r15 -32768"), ["support.function.mnemonic", "variable.language.register",
-                                                        "variable.language.register", "constant.numeric"])
-        self.assertEqual(scopes("lih r6 >first_child")[-1], "variable.other.label")
-        self.assertEqual(scopes("beq r10 r10 r16")[-1], "variable.other.label")
-        self.assertEqual(scopes("r1:"), ["entity.name.label"])
-        self.assertEqual(scopes("# ld  0"), ["comment.line.number-sign"])
+    def test_parts_of_lines(self) -> None:
+        for known, title in (PATTERNS, "scripts and assembly texts"), (OF_ASMX, "sources"):
+            for line in re.sub(r"\n +", " ", LINES[title]).splitlines():
+                text, _, due = line.partition(" => ")
+                self.assertEqual(scopes(escaped(text).decode(), known), due.split(), text)
 
     def test_what_makes_a_line_bad_is_seen(self) -> None:
         for line in ("ld 0 00", "ld 0 0X1f", "ld 0 0x1F", "LD 0 0", "ld  0 0", " ld 0 0", "ld 0 0 ", "ld\t0 0",
