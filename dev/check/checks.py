@@ -40,6 +40,7 @@ CHECKS: dict[str, Check | tuple[Check, ...]] = {
     "types": tools.types,
     "examples": (examples.examples, examples.programs, examples.retries, examples.monitor, documents.tutorial_sessions),
     "searches": examples.searches,
+    "every-program": examples.every_program,
     "certificates": certificates.certificates,
     "hostile-guests": guests.hostile_guests,
     "wrapper": (wrapper.wrapper, wrapper.in_turn, ended.nothing_is_proved),

@@ -4,11 +4,12 @@ import os
 import re
 from collections.abc import Iterator
 
-from authors import asmx
+from authors import asmx, every_program as programs
 from common import calling
-from common.machine import script
+from common.machine import every, script
+from debugger import searching, sources
 from reference import commands as reference
-from .running import Differs, contents, expect, paths, run, text_of, told_path
+from .running import REPOSITORY, Differs, contents, expect, paths, run, text_of, told_path
 
 SESSIONS = os.path.join("examples", "sessions")
 PROVED = os.path.join("crates", "pip_test_model", "proofs", "Scripts.antt")
@@ -99,6 +100,22 @@ def searched(program: str, kind: str) -> Iterator[tuple[str, str, bytes, bytes]]
         lines, text = asmx.processed(source)
         image, _ = run([program, "asm"], asmx.text_of(lines))
         yield path, told_path(source), image, asmx.text_of(text.menu)
+
+
+def every_program(program: str) -> None:
+    """Each NAME.any is what tools/every --any says of the program beside it, by the words in the first line. The text
+    of its last search is also that of the plain program."""
+    for path, name, data, _ in searched(program, "any"):
+        told, due = contents(path).decode().split("\n", 1)
+        states, *after = told.split()[1:]
+        begin = every.After(*map(int, after[1:])) if after else every.AT_FIRST
+        asked = searching.Asked(data, b"", int(states), after=begin)
+        found = programs.answer(program, asked, sources.read(data, os.path.join(REPOSITORY, name)))
+        expect(f"{name}, '{told}'", "".join(f"{line}\n" for line in programs.told(found)), due)
+        menu = programs.text_of(found.out.menu())
+        words = asked._replace(menu=menu).words()
+        expect(f"{name}, its menu", run(calling.called(program, words), data + menu),
+               reference.told(words, data + menu))
 
 
 RETRIES = [(seed, period) for period in (40, 53, 90) for seed in range(1, 21)]

@@ -14,7 +14,8 @@ SHOWN = (".pip", ".s", ".asmx", ".may")          # files of their own line, by t
 BEGIN = "<!-- the files, by dev/check/run.py --write-index -->\n"
 SENTENCE = re.compile(r"(.*?[^.A-Z])(?:\.(?=\s|$)|$)")
 # What stands beside scripts and programs
-BESIDE = (".out", ".run", ".every", ".apart", ".against", ".again", ".comes", ".session")
+BESIDE = (".out", ".run", ".every", ".apart", ".against", ".again", ".comes", ".any",
+          ".session")
 
 
 def index(program: str) -> None:
