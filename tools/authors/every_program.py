@@ -229,9 +229,14 @@ def programs_of(out: LeftOut) -> str:
     """Of which programs it is said."""
     own = sorted(out.own - {ROOT + 1})
     entries = dict.fromkeys((index, frozenset(values)) for (_, index), values in sorted(out.seen.items()))
-    kept = "; ".join(f"entry {index} of their handler tables is {' or '.join(map('{:#010x}'.format, sorted(values)))}"
-                     for index, values in entries)
-    return f"whatever the programs of {' and '.join(map(str, own))} are{kept and f', as long as {kept}'}"
+    kept = [f"entry {index} of a handler table is {' or '.join(map('{:#010x}'.format, sorted(values)))}"
+            for index, values in entries]
+    return f"whatever the programs of {listed(own)} are, as long as " + "; ".join(
+        [f"they write to pages {listed(sorted(out.pages))} alone", *kept])
+
+
+def listed(numbers: list[int]) -> str:
+    return " and ".join(filter(None, (", ".join(map(str, numbers[:-1])), *map(str, numbers[-1:]))))
 
 
 def told_of(program: str, asked: Asked, names: sources.Source) -> list[str]:
@@ -243,7 +248,7 @@ def told(found: Answer) -> list[str]:
     assert end
     if found.why:
         return [f"no: {found.why}"]
-    return [f"yes: {programs_of(found.out)}, no line comes but {len(found.search.lines)}, in {end[1]} states"]
+    return [f"yes: {programs_of(found.out)}: no line comes but {len(found.search.lines)}, in {end[1]} states"]
 
 
 class Row(NamedTuple):
