@@ -4,7 +4,7 @@ import os
 import re
 from collections.abc import Iterator
 
-from authors import asmx, every_program as programs
+from authors import asmx, every_program as guests
 from common import calling
 from common.machine import every, script
 from debugger import searching, sources
@@ -110,9 +110,9 @@ def every_program(program: str) -> None:
         states, *after = told.split()[1:]
         begin = every.After(*map(int, after[1:])) if after else every.AT_FIRST
         asked = searching.Asked(data, b"", int(states), after=begin)
-        found = programs.answer(program, asked, sources.read(data, os.path.join(REPOSITORY, name)))
-        expect(f"{name}, '{told}'", "".join(f"{line}\n" for line in programs.told(found)), due)
-        menu = programs.text_of(found.out.menu())
+        found = guests.answer(program, asked, sources.read(data, os.path.join(REPOSITORY, name)))
+        expect(f"{name}, '{told}'", (guests.text_of(guests.told(found)), 0), (due.encode(), 0))
+        menu = guests.text_of(found.out.menu())
         words = asked._replace(menu=menu).words()
         expect(f"{name}, its menu", run(calling.called(program, words), data + menu),
                reference.told(words, data + menu))

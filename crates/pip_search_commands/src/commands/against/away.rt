@@ -1,5 +1,5 @@
 //! What is said of whether all that is outside looks away.
-ghost use Rattle.std.specs.Prelude.{◌≡◌, ◌≤◌};
+ghost use Rattle.std.specs.Prelude.{◌≤◌};
 ghost use Rattle.pip_io.specs.Writes.{Writes};
 ghost use Rattle.pip_search_commands.specs.EveryText.{away_text, away_words, seen_by, seen_words};
 
