@@ -15,9 +15,9 @@ import subprocess
 import time
 
 from common import calling
-from . import (authors, beside, certificates, cheats, corners, counters, documents, ended, endings, examples,
-               exercises, exporting, gate, grading, guests, house, indexed, links, meanings, pages, playground,
-               playing, public_calls, releasing, shells, sites, sources, streams, tools, versions, wrapper,
+from . import (any_programs, authors, beside, certificates, cheats, corners, counters, documents, ended, endings,
+               examples, exercises, exporting, gate, grading, guests, house, indexed, links, meanings, pages,
+               playground, playing, public_calls, releasing, shells, sites, sources, streams, tools, versions, wrapper,
                wrong_bodies)
 from .running import Check, Differs, Skipped
 
@@ -40,7 +40,7 @@ CHECKS: dict[str, Check | tuple[Check, ...]] = {
     "types": tools.types,
     "examples": (examples.examples, examples.programs, examples.retries, examples.monitor, documents.tutorial_sessions),
     "searches": examples.searches,
-    "every-program": examples.every_program,
+    "every-program": (examples.every_program, any_programs.any_programs),
     "certificates": certificates.certificates,
     "hostile-guests": guests.hostile_guests,
     "wrapper": (wrapper.wrapper, wrapper.in_turn, ended.nothing_is_proved),
