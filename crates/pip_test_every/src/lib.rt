@@ -1,5 +1,5 @@
-//! Tests of pip_every and pip_journal: searches of roots whose states are known beforehand, changes of frames, and roots
-//! that read a word that is left out.
+//! Tests of pip_every and pip_journal: searches of roots whose states are known beforehand, changes of frames, and
+//! roots that read a word that is left out.
 #![tactic(auto)]
 
 #[cfg(test)]
