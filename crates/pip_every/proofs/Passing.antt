@@ -64,11 +64,8 @@ module _ (first : Memory) (o : LeftOut) (g : Menu) where
           least = here.least;
           first = λ ds j can low off. none_before (menu_model first g) start z h s stands place f.visit f.at
               (λ m. PassesUpTo o g m.world g.scope.cpus) (λ k v m less at own. f.before k v m less at own) ds can
-              (λ all. contrary (sym (all j low) ∙ off));
+              (λ all. cc (all j low, off));
         }
-      where
-        contrary : true ≡ false → ⊥
-        contrary e = cc
 
 -- what is said doesn't depend on the memory with which keys compare
 seen_rebased : (a b : Memory) (o : LeftOut) (g : Menu) (s : Moment) (cs : List ℕ) (k : ℕ) → IsSeenFirst a o g s cs k
@@ -97,16 +94,10 @@ module _ (first : Memory) (o : LeftOut) (g : Menu) (s : Moment) where
   no_both : (cs : List ℕ) (k : ℕ) → IsSeenFirst first o g s cs k
       → ((ds : List ℕ) (j : ℕ) → AreChoices (menu_model first g) ds → j < g.scope.cpus
       → passes_after first o g s ds j ≡ true) → ⊥
-  no_both cs k h all = contrary (sym (all cs k h.can h.cpu) ∙ h.seen)
-    where
-      contrary : true ≡ false → ⊥
-      contrary e = cc
+  no_both cs k h all = cc (all cs k h.can h.cpu, h.seen)
 
   same_cpu : (cs : List ℕ) (k j : ℕ) → IsSeenFirst first o g s cs k → IsSeenFirst first o g s cs j → k < j → ⊥
-  same_cpu cs k j a b low = contrary (sym (b.least k low) ∙ a.seen)
-    where
-      contrary : true ≡ false → ⊥
-      contrary e = cc
+  same_cpu cs k j a b low = cc (b.least k low, a.seen)
 
   one_seen : (cs ds : List ℕ) (k j : ℕ) → IsSeenFirst first o g s cs k → IsSeenFirst first o g s ds j
       → (cs ≡ ds) × (k ≡ j)
