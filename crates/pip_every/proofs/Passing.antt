@@ -1,8 +1,8 @@
 -- What is said of whether all outside looks away, from the visits that pass and the first that doesn't.
-use Rattle.std.proofs.Common.{◌≡◌, ℕ, ◌+◌, ◌<◌, inl, inr, true, false, List, length, Some, slice_get}
-use Rattle.std.proofs.Common.{Option, reverse, sym, ap, subst, ◌∙◌, arith}
+use Rattle.std.proofs.Common.{◌≡◌, ℕ, ◌+◌, ◌<◌, Bool, inl, inr, true, false, List, length, Some, slice_get}
+use Rattle.std.proofs.Common.{Option, reverse, refl, sym, ap, subst, ◌∙◌, arith}
 use Rattle.std.proofs.lemmas.Bool.{cases_lt}
-use Rattle.pip_away.specs.Blind.{LeftOut, is_left_out}
+use Rattle.pip_away.specs.Blind.{LeftOut, is_left_out, leaves_out}
 use Rattle.pip_base.specs.Memory.{Memory}
 use Rattle.pip_model.specs.Worlds.{World}
 use Rattle.pip_search.specs.Again.{HasClosed}
@@ -15,7 +15,8 @@ use Rattle.pip_search.specs.declared.searching.Search.{Search}
 use Rattle.pip_search.proofs.Once.{no_later_both}
 use Rattle.pip_search.proofs.Places.{get-below}
 use Rattle.pip_search.proofs.Placing.{none_before, way_there, wherever}
-use Rattle.pip_every.specs.Away.{IsAwayReply, IsAwaySaid, IsSeenFirst, SayTheSame, looks_away, passes_after}
+use Rattle.pip_every.specs.Away.{IsAwayReply, IsAwaySaid, IsSeenFirst, ReplyTheSame, SayTheSame, looks_away}
+use Rattle.pip_every.specs.Away.{passes_after}
 use Rattle.pip_every.specs.Keys.{IsKeyOf}
 use Rattle.pip_every.specs.Menus.{Menu, menu_model}
 use Rattle.pip_every.specs.Moments.{Moment}
@@ -134,3 +135,14 @@ module _ (first : Memory) (o : LeftOut) (g : Menu) (s : Moment) where
   said_once (Stopped depth) (No way cpu) b h k = absurd cc
   said_once (Stopped depth) a Yes h k = absurd cc
   said_once (Stopped depth) a (No way cpu) h k = absurd cc
+
+  pub replies_once : (end : Extent) (a b : Option Away) → IsAwayReply first o g s end a → IsAwayReply first o g s end b
+      → ReplyTheSame a b
+  replies_once end a b h k = go (leaves_out o) refl
+    where
+      go : (c : Bool) → leaves_out o ≡ c → ReplyTheSame a b
+      go true e =
+          let (x, (is, said)) = h.asked e in
+          let (y, (also, other)) = k.asked e in
+          rw (is, also) (said_once end x y said other)
+      go false e = rw (h.none e, k.none e) tt
