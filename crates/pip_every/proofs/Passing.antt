@@ -1,8 +1,8 @@
 -- What is said of whether all outside looks away, from the visits that pass and the first that doesn't.
-use Rattle.std.proofs.Common.{◌≡◌, ℕ, ◌+◌, ◌<◌, inl, inr, true, false, List, length, Some, slice_get}
-use Rattle.std.proofs.Common.{Option, reverse, sym, ap, subst, ◌∙◌, arith}
+use Rattle.std.proofs.Common.{◌≡◌, ℕ, ◌+◌, ◌<◌, Bool, inl, inr, true, false, List, length, Some, slice_get}
+use Rattle.std.proofs.Common.{Option, reverse, refl, sym, ap, subst, ◌∙◌, arith}
 use Rattle.std.proofs.lemmas.Bool.{cases_lt}
-use Rattle.pip_away.specs.Blind.{LeftOut, is_left_out}
+use Rattle.pip_away.specs.Blind.{LeftOut, is_left_out, leaves_out}
 use Rattle.pip_base.specs.Memory.{Memory}
 use Rattle.pip_model.specs.Worlds.{World}
 use Rattle.pip_search.specs.Again.{HasClosed}
@@ -15,7 +15,8 @@ use Rattle.pip_search.specs.declared.searching.Search.{Search}
 use Rattle.pip_search.proofs.Once.{no_later_both}
 use Rattle.pip_search.proofs.Places.{get-below}
 use Rattle.pip_search.proofs.Placing.{none_before, way_there, wherever}
-use Rattle.pip_every.specs.Away.{IsAwayReply, IsAwaySaid, IsSeenFirst, SayTheSame, looks_away, passes_after}
+use Rattle.pip_every.specs.Away.{IsAwayReply, IsAwaySaid, IsSeenFirst, ReplyTheSame, SayTheSame, looks_away}
+use Rattle.pip_every.specs.Away.{passes_after}
 use Rattle.pip_every.specs.Keys.{IsKeyOf}
 use Rattle.pip_every.specs.Menus.{Menu, menu_model}
 use Rattle.pip_every.specs.Moments.{Moment}
@@ -64,11 +65,8 @@ module _ (first : Memory) (o : LeftOut) (g : Menu) where
           least = here.least;
           first = λ ds j can low off. none_before (menu_model first g) start z h s stands place f.visit f.at
               (λ m. PassesUpTo o g m.world g.scope.cpus) (λ k v m less at own. f.before k v m less at own) ds can
-              (λ all. contrary (sym (all j low) ∙ off));
+              (λ all. cc (all j low, off));
         }
-      where
-        contrary : true ≡ false → ⊥
-        contrary e = cc
 
 -- what is said doesn't depend on the memory with which keys compare
 seen_rebased : (a b : Memory) (o : LeftOut) (g : Menu) (s : Moment) (cs : List ℕ) (k : ℕ) → IsSeenFirst a o g s cs k
@@ -97,16 +95,10 @@ module _ (first : Memory) (o : LeftOut) (g : Menu) (s : Moment) where
   no_both : (cs : List ℕ) (k : ℕ) → IsSeenFirst first o g s cs k
       → ((ds : List ℕ) (j : ℕ) → AreChoices (menu_model first g) ds → j < g.scope.cpus
       → passes_after first o g s ds j ≡ true) → ⊥
-  no_both cs k h all = contrary (sym (all cs k h.can h.cpu) ∙ h.seen)
-    where
-      contrary : true ≡ false → ⊥
-      contrary e = cc
+  no_both cs k h all = cc (all cs k h.can h.cpu, h.seen)
 
   same_cpu : (cs : List ℕ) (k j : ℕ) → IsSeenFirst first o g s cs k → IsSeenFirst first o g s cs j → k < j → ⊥
-  same_cpu cs k j a b low = contrary (sym (b.least k low) ∙ a.seen)
-    where
-      contrary : true ≡ false → ⊥
-      contrary e = cc
+  same_cpu cs k j a b low = cc (b.least k low, a.seen)
 
   one_seen : (cs ds : List ℕ) (k j : ℕ) → IsSeenFirst first o g s cs k → IsSeenFirst first o g s ds j
       → (cs ≡ ds) × (k ≡ j)
@@ -143,3 +135,14 @@ module _ (first : Memory) (o : LeftOut) (g : Menu) (s : Moment) where
   said_once (Stopped depth) (No way cpu) b h k = absurd cc
   said_once (Stopped depth) a Yes h k = absurd cc
   said_once (Stopped depth) a (No way cpu) h k = absurd cc
+
+  pub replies_once : (end : Extent) (a b : Option Away) → IsAwayReply first o g s end a → IsAwayReply first o g s end b
+      → ReplyTheSame a b
+  replies_once end a b h k = go (leaves_out o) refl
+    where
+      go : (c : Bool) → leaves_out o ≡ c → ReplyTheSame a b
+      go true e =
+          let (x, (is, said)) = h.asked e in
+          let (y, (also, other)) = k.asked e in
+          rw (is, also) (said_once end x y said other)
+      go false e = rw (h.none e, k.none e) tt

@@ -88,7 +88,7 @@ IsAwaySaid first o g s (Closed depth) Unknown = ⊥
 IsAwaySaid first o g s (Within depth) r = r ≡ Unknown
 IsAwaySaid first o g s (Stopped depth) r = r ≡ Unknown
 
--- and only where something is left out
+-- and only where partitions are named, or words
 pub record IsAwayReply (first : Memory) (o : LeftOut) (g : Menu) (s : Moment) (end : Extent) (r : Option Away) : Type 0
   where
     pub asked : leaves_out o ≡ true → (a : Away) × ((r ≡ Some a) × IsAwaySaid first o g s end a)
@@ -100,3 +100,9 @@ SayTheSame Yes Yes = Unit {0}
 SayTheSame (No way cpu) (No other k) = (way.items ≡ other.items) × (cpu ≡ k)
 SayTheSame Unknown Unknown = Unit {0}
 SayTheSame _ _ = ⊥
+
+-- and so do two replies, or neither says anything
+abbrev pub ReplyTheSame : Option Away → Option Away → Type 0
+ReplyTheSame (Some a) (Some b) = SayTheSame a b
+ReplyTheSame None None = Unit {0}
+ReplyTheSame _ _ = ⊥

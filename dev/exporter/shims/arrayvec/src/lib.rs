@@ -1,7 +1,7 @@
 //! Vectors and texts of a fixed room, after the crate arrayvec: as much of it as these crates use.
 #![no_std]
 
-use core::fmt::{self, Debug, Formatter};
+use core::fmt::{self, Debug, Display, Formatter};
 use core::mem::MaybeUninit;
 use core::ops::{Deref, DerefMut};
 
@@ -13,6 +13,12 @@ impl<T> CapacityError<T> {
     /// What found no room.
     pub fn element(self) -> T {
         self.0
+    }
+}
+
+impl<T> Display for CapacityError<T> {
+    fn fmt(&self, f: &mut Formatter<'_>) -> fmt::Result {
+        f.write_str("insufficient capacity")
     }
 }
 
