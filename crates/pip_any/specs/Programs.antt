@@ -83,7 +83,7 @@ ProgramsAreNamed = (own : List ℕ) (blind : ℕ → ℕ → Bool) (first : Memo
     → AreNamedTurns ws own blind w plans seed g.scope.cpus n t (text_of (steps w plans seed g.scope.cpus n t))
 
 -- where the partitions of the menu are confined, all that they do is free but for exits: accesses that fault, traps,
--- yields that enter another, vcli and vsti
+-- yields that enter another, and what goes to a word that is not left out
 abbrev pub ConfinedProgramsAreNamed : Type 0
 ConfinedProgramsAreNamed = (own : List ℕ) (blind : ℕ → ℕ → Bool) (first : Memory) (g : Menu) (m : Moment)
     (most limit count depth : ℕ)

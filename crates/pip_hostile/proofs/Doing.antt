@@ -28,6 +28,7 @@ use Rattle.pip_model.proofs.OnLists.Acts.{after-events}
 use Rattle.pip_outside.specs.Outside.{Alike, AlikeOn, IsAlike, ReadsOutside}
 use Rattle.pip_outside.specs.Unseen.{Answers, IsUnseen}
 use Rattle.pip_outside.proofs.Alikes.{alike_back, alike_on}
+use Rattle.pip_outside.proofs.Masks.{reach_alike}
 use Rattle.pip_outside.proofs.Moved.{outside_depends_on_outside}
 use Rattle.pip_outside.proofs.Staying.{unseen_is_unseen}
 use Rattle.pip_outside.proofs.Turning.{runs_alike}
@@ -120,7 +121,7 @@ no_answer own blind x v cpu (D.Load va z) a n m =
     by None k b = b
     by (Some q) k b =
         let there : reach x.tree q.name va Load z ≡ reach v.tree m.0.name va Load z =
-        ap (λ p. reach x.tree p va Load z) b.0 ∙ ap (λ t. reach t m.0.name va Load z) a.tree.nodes in
+        ap (λ p. reach x.tree p va Load z) b.0 ∙ reach_alike blind x.tree v.tree m.0.name va Load z a.tree in
         gave_word x cpu q va z (reach x.tree q.name va Load z) (subst Answers (sym there) m.2)
         (subst (λ h. IsNoWord h.outcome) (ap (λ o. on_running x cpu o
         (λ r. load_happens x cpu r va Load z (reach x.tree r.name va Load z))) k) n)

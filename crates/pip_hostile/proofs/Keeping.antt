@@ -106,7 +106,6 @@ module _ (own : List ℕ) (blind : ℕ → ℕ → Bool) (g : Menu) (cpu : ℕ) 
       leaf = r.confined.leaf;
       creates = r.confined.creates;
       other = r.confined.other;
-      alone = r.confined.alone;
       there = λ va h j z k. words h (h == g) (r.confined.there va h j z k);
     });
   }

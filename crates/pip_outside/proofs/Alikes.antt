@@ -34,7 +34,7 @@ pub alike_back : (own : List ℕ) (blind : ℕ → ℕ → Bool) (w v : World) �
 alike_back own blind w v a =
     record { tree = trees_back blind w.tree v.tree a.tree; cpus = cpus_alike_back own w.cpus v.cpus a.cpus }
 
-trees_on : (blind : ℕ → ℕ → Bool) (t u x : Tree) → AlikeTrees blind t u → AlikeTrees blind u x → AlikeTrees blind t x
+pub trees_on : (blind : ℕ → ℕ → Bool) (t u x : Tree) → AlikeTrees blind t u → AlikeTrees blind u x → AlikeTrees blind t x
 trees_on blind t u x a b = record {
   nodes = ap {A = Tree} (λ y. record y { words = x.words }) a.nodes ∙ b.nodes;
   words = λ g. record {

@@ -1,7 +1,7 @@
 -- A partition that is confined: what it does stays inside, or is one of a few exits.
 use Rattle.std.proofs.Common.{◌≡◌, ◌≢◌, ℕ, zero, suc, ◌<◌, ◌≤◌, arith, ◌==◌, ◌&&◌, ◌⊎◌, inl, inr, Bool, true, false}
 use Rattle.std.proofs.Common.{cond, List, [], ◌∷◌, map, not}
-use Rattle.std.proofs.Common.{refl, sym, ap, ap₂, ◌∙◌, ◌||◌, subst, eqb-true, Option, Some, None}
+use Rattle.std.proofs.Common.{refl, sym, ap, ◌∙◌, ◌||◌, subst, eqb-true, Option, Some, None}
 use Rattle.std.specs.Prelude.{◌+◌, ◌-◌, is_none, is_some, nat_le, nat_lt, option_map}
 use Rattle.std.proofs.lemmas.Bool.{cases_eq, leb-true, ltb-true, ne_eqb}
 use Rattle.pip_base.specs.declared.outcome.Status.{Status}
@@ -30,8 +30,8 @@ use Rattle.pip_model.specs.Reach.{Faulted, Place, Reached, reach}
 use Rattle.pip_model.specs.RemoveVAddr.{remove_refusals, tree_without_row}
 use Rattle.pip_model.specs.Switching.{node_name, reply_unless, target_node, with_zeros, yield_happens, yield_to}
 use Rattle.pip_model.specs.Switching.{yield_place, yield_refusals, yielded_tree}
-use Rattle.pip_model.specs.Tree.{Node, Tree, below, dir, free, has_table, holder, is_place, row_at, vpage}
-use Rattle.pip_model.specs.Worlds.{Happened, World, ctx_of, ctx_on, masked_node, running, runs_on, with_masked}
+use Rattle.pip_model.specs.Tree.{Node, Tree, below, child_at, dir, free, has_table, holder, is_place, row_at, vpage}
+use Rattle.pip_model.specs.Worlds.{Happened, World, ctx_of, ctx_on, masked_node, running, runs_on}
 use Rattle.pip_model.specs.declared.call_name.CallName.{CallName}
 use Rattle.pip_model.specs.declared.call_name.CallName.TheVariants.{Masks, OnMemory, Unknown, Yields}
 use Rattle.pip_model.specs.declared.call_name.MemoryCall.{MemoryCall}
@@ -40,13 +40,13 @@ use Rattle.pip_model.specs.declared.call_name.MemoryCall.TheVariants.{DeletePart
 use Rattle.pip_model.specs.declared.call_name.MemoryCall.TheVariants.{RemoveVAddr}
 use Rattle.pip_model.specs.declared.processors.Occupant.{Occupant}
 use Rattle.pip_outside.specs.Exits.{ConfinedAlike, ConfinedStaysOrExits, Faults, GoesAway, IsConfined, IsExit, IsMadeOn}
-use Rattle.pip_outside.specs.Exits.{IsSeen}
+use Rattle.pip_outside.specs.Exits.{IsSeen, MasksAreUnseen}
 use Rattle.pip_outside.specs.Exits.{SaveIsSeen, SoundConfines}
-use Rattle.pip_outside.specs.Outside.{AlikeTrees, AlikeWord, Lands}
+use Rattle.pip_outside.specs.Outside.{AlikeTrees, AlikeWord, Lands, bare, unmasked}
 use Rattle.pip_outside.specs.Unseen.{Answers, ByOneOf, GoesTo, IsUnseen, StaysThere}
 use Rattle.pip_model.proofs.Events.Soundness.{reached_words}
-use Rattle.pip_model.proofs.Trees.Ancestors.{not_root}
 use Rattle.pip_outside.proofs.Alikes.{tree_alike_same}
+use Rattle.pip_outside.proofs.Masks.{child_bare, create_refused, masked_alike, reach_bare}
 
 -- ---- calls on memory
 
@@ -112,26 +112,6 @@ module _ (w : World) (p : ℕ) (c : IsConfined w.tree p) where
 
 -- ---- yields
 
-mask_stays : (n : ℕ) (b : Bool) (xs : List Node) → ((x : Node) → In x xs → x.name ≡ n → ⊥)
-    → map (masked_node n b) xs ≡ xs
-mask_stays n b [] f = refl
-mask_stays n b (x ∷ xs) f =
-    ap₂ (λ y ys. y ∷ ys) (ap (λ m. record x { masked = cond m b x.masked }) (ne_eqb x.name n (f x (inl refl))))
-    (mask_stays n b xs (λ y i. f y (inr i)))
-
--- to set the root's mask to what it is changes nothing
-mask_same : (t : Tree) → ((x : Node) → In x t.others → x.name ≢ t.root.name)
-    → with_masked t.root.name t.root.masked t ≡ t
-mask_same t s =
-    let r : masked_node t.root.name t.root.masked t.root ≡ t.root =
-    ap (λ b. record t.root { masked = b }) (either (t.root.name == t.root.name)) in
-    let o = mask_stays t.root.name t.root.masked t.others s in
-    λ i. record t { root = r i; others = o i }
-  where
-    either : (b : Bool) → cond b t.root.masked t.root.masked ≡ t.root.masked
-    either true = refl
-    either false = refl
-
 not_both : {x : Bool} → x ≡ false → x ≡ true → ⊥
 not_both f t = cc
 
@@ -188,13 +168,25 @@ module _ (own : List ℕ) (blind : ℕ → ℕ → Bool) (w : World) (cpu : ℕ)
   yields_itself : (n : ℕ) → Lands blind (yield_place w.tree r.name n)
       → AlikeTrees blind (yielded_tree w.tree r n) w.tree
   yields_itself n l = record {
-    nodes = ap {A = Tree} (λ t. record t { words = w.tree.words }) mask;
+    nodes = λ i. record {
+      frames = w.tree.frames;
+      root = record w.tree.root { masked = root (w.tree.root.name == w.tree.root.name) i };
+      others = stays w.tree.others i;
+      words = w.tree.words;
+    };
     words = λ g. landed blind (with_zeros r.ctx) g (yield_place w.tree r.name n) l (w.tree.words g);
   }
     where
-      mask : with_masked w.tree.root.name (cond (r.name == w.tree.root.name) false w.tree.root.masked) w.tree ≡ w.tree
-      mask = ap (λ b. with_masked w.tree.root.name (cond b false w.tree.root.masked) w.tree)
-          (ne_eqb r.name w.tree.root.name c.other) ∙ mask_same w.tree c.alone
+      b : Bool
+      b = cond (r.name == w.tree.root.name) false w.tree.root.masked
+
+      root : (c : Bool) → cond c b w.tree.root.masked ≡ w.tree.root.masked
+      root true = ap (λ x. cond x false w.tree.root.masked) (ne_eqb r.name w.tree.root.name c.other)
+      root false = refl
+
+      stays : (xs : List Node) → map unmasked (map (masked_node w.tree.root.name b) xs) ≡ map unmasked xs
+      stays [] = refl
+      stays (x ∷ xs) = ap (λ l. unmasked x ∷ l) (stays xs)
 
   call_does : (number : ℕ) (a : Five) → IsUnseen own blind w (E.Call cpu number a)
       ⊎ IsExit blind w r.name (E.Call cpu number a)
@@ -250,15 +242,15 @@ module _ (own : List ℕ) (blind : ℕ → ℕ → Bool) (w : World) (cpu : ℕ)
 
       go : (c : CallName) → call_named number ≡ c
           → (StaysThere (call c w cpu r a).outcome × AlikeTrees blind (call c w cpu r a).world.tree w.tree)
-          ⊎ (GoesAway r.name (call c w cpu r a).outcome ⊎ (((b : Bool) × (call_named number ≡ Masks b))
-          ⊎ ((call_named number ≡ Yields) × SaveIsSeen blind (yield_place w.tree r.name a.x2))))
+          ⊎ (GoesAway r.name (call c w cpu r a).outcome
+          ⊎ ((call_named number ≡ Yields) × SaveIsSeen blind (yield_place w.tree r.name a.x2)))
       go (OnMemory m) e = inl (tt, same_trees blind w.tree (answer m w r.name a).tree (keeps w r.name c a m))
       go Yields e = elim (yields (target_node w.tree r.name a.x0)) [
         | inl m ↦ inl m
         | inr (inl m) ↦ inr (inl m)
-        | inr (inr m) ↦ inr (inr (inr (e, m)))
+        | inr (inr m) ↦ inr (inr (e, m))
       ]
-      go (Masks b) e = inr (inr (inl (b, e)))
+      go (Masks b) e = inl (tt, masked_alike blind r.name b w.tree c.other)
       go Unknown e = inl (tt, tree_alike_same blind w.tree)
 
   at_reach : (va : ℕ) (x : Access) (z : Size) → Answers (reach w.tree r.name va x z)
@@ -312,20 +304,38 @@ module _ (own : List ℕ) (blind : ℕ → ℕ → Bool) (w : World) (cpu : ℕ)
 pub confined_stays_or_exits : ConfinedStaysOrExits
 confined_stays_or_exits own blind w cpu e r k i c m = does own blind w cpu r k i c e m
 
+pub masks_are_unseen : MasksAreUnseen
+masks_are_unseen own blind w cpu number a r b k i n e =
+    let f = ap (λ o. on_running w cpu o (λ r. call (call_named number) w cpu r a)) k ∙ ap (λ c. call c w cpu r a) e in (
+      subst (λ o. ByOneOf own o (λ r. Unit {0})) (sym k) (i, tt),
+      subst (λ h. StaysThere h.outcome) (sym f) tt,
+      subst (λ h. AlikeTrees blind h.world.tree w.tree) (sym f) (masked_alike blind r.name b w.tree n),
+    )
+
 pub confined_alike : ConfinedAlike
-confined_alike blind t u p a c = subst (λ x. IsConfined x p) a.nodes (record {
-  leaf = c.leaf;
-  creates = c.creates;
+confined_alike blind t u p a c = of_bare u p (subst (λ x. IsConfined x p) a.nodes (record {
+  leaf = λ d. rw (child_bare t p d, c.leaf d);
+  creates = λ x. subst (λ o. o ≢ None) (sym (create_refused t p x)) (c.creates x);
   other = c.other;
-  alone = c.alone;
-  there = λ va g i z e. sym (a.words g).there ∙ c.there va g i z e;
-})
+  there = λ va g i z e. sym (a.words g).there ∙ c.there va g i z (sym (reach_bare t p va Store z) ∙ e);
+}))
+  where
+    none : (o : Option Node) → option_map unmasked o ≡ None → o ≡ None
+    none None e = refl
+    none (Some x) e = cc
+
+    of_bare : (u : Tree) (p : ℕ) → IsConfined (bare u) p → IsConfined u p
+    of_bare u p c = record {
+      leaf = λ d. none (child_at u p d) (sym (child_bare u p d) ∙ c.leaf d);
+      creates = λ x. subst (λ o. o ≢ None) (create_refused u p x) (c.creates x);
+      other = c.other;
+      there = λ va g i z e. c.there va g i z (reach_bare u p va Store z ∙ e);
+    }
 
 pub sound_confines : SoundConfines
 sound_confines t p s n other leaf creates = record {
   leaf = leaf;
   creates = creates;
   other = other;
-  alone = λ x i e. not_root t s x i (sym e);
   there = λ va g i z e. reached_words t p va g i Store z s n e;
 }

@@ -1,5 +1,6 @@
 pub mod Seen
 pub mod Runners
+pub mod Masks
 pub mod Answered
 pub mod Moved
 pub mod Alikes

@@ -34,10 +34,10 @@ use Rattle.pip_model.specs.declared.call_name.CallName.TheVariants.{Masks, OnMem
 use Rattle.pip_model.specs.declared.processors.Occupant.{Occupant}
 use Rattle.pip_model.specs.declared.processors.Taker.{Taker}
 use Rattle.pip_outside.specs.Outside.{AboveMiss, AlikeCpus, AlikeOn, AlikeTrees, AlikeWord, ByRunner, DeliveryMisses}
-use Rattle.pip_outside.specs.Outside.{HandlerMisses, HandlersMiss, IsAlike, LoadMisses, MemoryMisses, SaveMisses}
+use Rattle.pip_outside.specs.Outside.{HandlerMisses, HandlersMiss, LoadMisses, MemoryMisses, SaveMisses}
 use Rattle.pip_outside.specs.Outside.{StoreMisses}
 use Rattle.pip_outside.specs.Outside.{CallMisses, Lands, LinesMiss, OutsideDependsOnOutside, PollMisses, ReadsOutside}
-use Rattle.pip_outside.specs.Outside.{YieldMisses}
+use Rattle.pip_outside.specs.Outside.{YieldMisses, bare}
 use Rattle.pip_model.specs.DeletePartition.{delete_partition}
 use Rattle.pip_model.specs.declared.call_name.MemoryCall.{MemoryCall}
 use Rattle.pip_model.specs.declared.call_name.MemoryCall.TheVariants.{AddVAddr, Collect, CountToMap, CreatePartition}
@@ -45,6 +45,8 @@ use Rattle.pip_model.specs.declared.call_name.MemoryCall.TheVariants.{DeletePart
 use Rattle.pip_model.specs.declared.call_name.MemoryCall.TheVariants.{RemoveVAddr}
 use Rattle.pip_outside.proofs.Answered.{AlikeAnswers, add_alike, collect_alike, count_alike, create_alike, delete_alike}
 use Rattle.pip_outside.proofs.Answered.{mapped_alike, prepare_alike, remove_alike}
+use Rattle.pip_outside.proofs.Alikes.{trees_on}
+use Rattle.pip_outside.proofs.Masks.{bare_alike, masks_tell_nothing}
 use Rattle.pip_outside.proofs.Runners.{at_alike, count_same, names_same, set_alike}
 use Rattle.pip_outside.proofs.Seen.{AlikeHandlers, handler_same, place_same, saved_alike}
 
@@ -368,13 +370,21 @@ module _ (own : List ℕ) (blind : ℕ → ℕ → Bool) (w : World) (u : ℕ �
     taken j (Some x) (Some y) l = record {
       outcome = ap (λ q. O.Switched q w.tree.root.name (32 + j)) n;
       tree = record {
-        nodes = ap (λ t. with_pending (filter (λ i. not (i == j)) w.tree.root.pending) (with_masked w.tree.root.name
-            true t)) k.nodes;
+        nodes = lined o p;
         words = k.words;
       };
       cpus = set_alike own w.cpus ds cpu _ _ c
           (refl, (λ n. ap (λ q. handler_context q (32 + j) 0 0 0) (l n)));
     }
+      where
+        lined : (o p : Option Occupant) → record (bare (with_pending (filter (λ i. not (i == j)) w.tree.root.pending)
+            (with_masked w.tree.root.name true (save_running w.tree o)))) { words = (save_running v.tree p).words }
+            ≡ bare (with_pending (filter (λ i. not (i == j)) w.tree.root.pending) (with_masked w.tree.root.name true
+            (save_running v.tree p)))
+        lined None None = refl
+        lined None (Some q) = refl
+        lined (Some r) None = refl
+        lined (Some r) (Some q) = refl
 
     polled : LinesMiss own blind w.tree w.tree.root.pending → Both own blind (poll w cpu o) (poll v cpu p)
     polled m = subst (λ b. Both own blind (poll w cpu o) (cond b (poll_line v cpu p (lowest_line v w.tree.root.pending))
@@ -470,6 +480,19 @@ module _ (own : List ℕ) (blind : ℕ → ℕ → Bool) (w : World) (u : ℕ �
 
 pub outside_depends_on_outside : OutsideDependsOnOutside
 outside_depends_on_outside own blind w v e a m =
-    subst (λ t. IsAlike own blind e w (record v { tree = t })) a.tree.nodes
-    (let b = moved own blind w v.tree.words v.cpus v.caches a.tree.words a.cpus e m in
-    record { outcome = b.outcome; world = record { tree = b.tree; cpus = b.cpus } })
+    let u : World = record v { tree = record w.tree { words = v.tree.words } } in
+    let b = moved own blind w v.tree.words v.cpus v.caches a.tree.words a.cpus e m in
+    let from = masks_tell_nothing u e in
+    let to = masks_tell_nothing v e in
+    let over : ◌≡◌ {A = World} (record u { tree = bare u.tree }) (record v { tree = bare v.tree }) =
+    ap (λ t. record v { tree = t }) a.tree.nodes in
+    let same = ap (λ x. what_happens x e) over in
+    let tree = sym from.tree ∙ ap (λ h. bare h.world.tree) same ∙ to.tree in
+    let cpus = sym from.cpus ∙ ap (λ h. h.world.cpus) same ∙ to.cpus in
+    record {
+      outcome = b.outcome ∙ sym from.outcome ∙ ap (λ h. h.outcome) same ∙ to.outcome;
+      world = record {
+        tree = trees_on blind _ _ _ b.tree (bare_alike blind _ _ tree);
+        cpus = subst (AlikeCpus own (what_happens w e).world.cpus) cpus b.cpus;
+      };
+    }

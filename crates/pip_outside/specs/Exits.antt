@@ -18,7 +18,7 @@ use Rattle.pip_model.specs.Lists.{In}
 use Rattle.pip_model.specs.Reach.{Fault, Faulted, Place, Reached, reach}
 use Rattle.pip_model.specs.Sound.{IsSound}
 use Rattle.pip_model.specs.Switching.{yield_place}
-use Rattle.pip_model.specs.Tree.{Node, Row, Tree, child_at, names_of, node, nodes}
+use Rattle.pip_model.specs.Tree.{Row, Tree, child_at, names_of, node, nodes}
 use Rattle.pip_model.specs.Worlds.{World, ctx_on, runs_on}
 use Rattle.pip_model.specs.declared.call_name.CallName.TheVariants.{Masks, Yields}
 use Rattle.pip_model.specs.declared.processors.Occupant.{Occupant}
@@ -59,15 +59,20 @@ RefusedIsUnseen = (own : List ℕ) (blind : ℕ → ℕ → Bool) (w : World) (c
     → runs_on w cpu ≡ Some r → In r.name own → (event w (E.Call cpu number a)).outcome ≡ O.Reply s v → s ≢ S.Ok
     → IsUnseen own blind w (E.Call cpu number a)
 
+-- so is each vcli and vsti of a partition that isn't the root
+abbrev pub MasksAreUnseen : Type 0
+MasksAreUnseen = (own : List ℕ) (blind : ℕ → ℕ → Bool) (w : World) (cpu number : ℕ) (a : Five) (r : Occupant) (b : Bool)
+    → runs_on w cpu ≡ Some r → In r.name own → r.name ≢ w.tree.root.name → call_named number ≡ Masks b
+    → IsUnseen own blind w (E.Call cpu number a)
+
 -- ---- partitions that can't do more
 
--- a partition, not the root, without children, to which createPartition is always refused. (The last two are so in each
--- sound tree: no other has the root's name, and what a partition reaches has words)
+-- a partition, not the root, without children, to which createPartition is always refused. (The last is so in each
+-- sound tree: what a partition reaches has words)
 pub record IsConfined (t : Tree) (p : ℕ) : Type 0 where
   pub leaf : (d : ℕ) → child_at t p d ≡ None
   pub creates : (a : Five) → first_met (create_refusals t p a) ≢ None
   pub other : p ≢ t.root.name
-  pub alone : (x : Node) → In x t.others → x.name ≢ t.root.name
   pub there : (va g i : ℕ) (z : Size) → reach t p va Store z ≡ Place g i → is_some (t.words g) ≡ true
 
 -- an access faults
@@ -94,16 +99,15 @@ abbrev pub SaveIsSeen : (ℕ → ℕ → Bool) → Reached → Type 0
 SaveIsSeen blind (Place g i) = (j : ℕ) × (i ≤ j) × (j < i + 17) × (blind g j ≡ false)
 SaveIsSeen blind (Faulted f) = ⊥
 
--- p makes an access that faults, a store to a word that is not left out, a trap, a yield that enters another or saves
--- to such a word, or vcli or vsti
+-- p makes an access that faults, a store to a word that is not left out, a trap, or a yield that enters another or
+-- saves to such a word
 abbrev pub IsExit : (ℕ → ℕ → Bool) → World → ℕ → Event → Type 0
 IsExit blind w p (E.Load cpu va z) = Faults (reach w.tree p va Load z)
 IsExit blind w p (E.Store cpu va z x) = IsSeen blind (reach w.tree p va Store z)
 IsExit blind w p (E.Fetch cpu) = Faults (reach w.tree p (ctx_on w cpu).pc Fetch Word)
 IsExit blind w p (E.Trap cpu k a b) = Unit {0}
 IsExit blind w p (E.Call cpu number a) = GoesAway p (event w (E.Call cpu number a)).outcome
-    ⊎ (((b : Bool) × (call_named number ≡ Masks b))
-    ⊎ ((call_named number ≡ Yields) × SaveIsSeen blind (yield_place w.tree p a.x2)))
+    ⊎ ((call_named number ≡ Yields) × SaveIsSeen blind (yield_place w.tree p a.x2))
 IsExit blind w p (E.Raise j) = ⊥
 IsExit blind w p (E.Poll cpu) = ⊥
 IsExit blind w p (E.SetContext cpu c) = ⊥
@@ -125,7 +129,7 @@ ConfinedStaysOrExits = (own : List ℕ) (blind : ℕ → ℕ → Bool) (w : Worl
     → runs_on w cpu ≡ Some r → In r.name own → IsConfined w.tree r.name → IsMadeOn cpu e
     → IsUnseen own blind w e ⊎ IsExit blind w r.name e
 
--- that a partition is confined depends on no words
+-- that a partition is confined depends on no words and masks
 abbrev pub ConfinedAlike : Type 0
 ConfinedAlike =
     (blind : ℕ → ℕ → Bool) (t u : Tree) (p : ℕ) → AlikeTrees blind t u → IsConfined t p → IsConfined u p

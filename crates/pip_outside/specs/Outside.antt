@@ -1,6 +1,6 @@
 -- What partitions outside of others depend on: the tree, what runs, and the words that they read. The words of some
 -- blind, and the registers of some partitions, have no effect on an event that doesn't read them.
-use Rattle.std.specs.Prelude.{◌≡◌, ℕ, zero, suc, ◌+◌, ◌*◌, ◌<◌, ◌≤◌, nat_lt, Bool, true, false, List, [], ◌∷◌, Option}
+use Rattle.std.specs.Prelude.{◌≡◌, ℕ, zero, suc, ◌+◌, ◌*◌, ◌<◌, ◌≤◌, nat_lt, Bool, true, false, List, [], ◌∷◌, map, Option}
 use Rattle.std.specs.Prelude.{Some, None, is_some}
 use Rattle.pip_base.specs.declared.types.Access.TheVariants.{Load, Store, Fetch}
 use Rattle.pip_base.specs.declared.types.Size.TheVariants.{Word}
@@ -44,9 +44,17 @@ pub record AlikeWord (blind : ℕ → ℕ → Bool) (g : ℕ) (o p : Option (ℕ
   pub there : is_some o ≡ is_some p
   pub words : (i : ℕ) → blind g i ≡ false → word_of o i ≡ word_of p i
 
--- two trees that differ in words that are left out alone
+-- a node without its mask
+abbrev pub unmasked : Node → Node
+unmasked x = record x { masked = false }
+
+-- a tree with the mask of the root alone: no event reads another
+abbrev pub bare : Tree → Tree
+bare t = record t { others = map unmasked t.others }
+
+-- two trees that differ in the masks of partitions other than the root, and in words that are left out, alone
 pub record AlikeTrees (blind : ℕ → ℕ → Bool) (t u : Tree) : Type 0 where
-  pub nodes : record t { words = u.words } ≡ u
+  pub nodes : record (bare t) { words = u.words } ≡ bare u
   pub words : (g : ℕ) → AlikeWord blind g (t.words g) (u.words g)
 
 -- two worlds that look alike from outside of these partitions and words. Caches may differ

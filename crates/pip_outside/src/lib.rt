@@ -3,7 +3,7 @@
 #![tactic(auto)]
 
 ghost use Rattle.pip_outside.specs.Exits.{ConfinedAlike, ConfinedStaysOrExits, FewPagesCreateNone, SoundConfines};
-ghost use Rattle.pip_outside.specs.Exits.{FetchFaultsAreTraps, LoadFaultsAreTraps, RefusedIsUnseen};
+ghost use Rattle.pip_outside.specs.Exits.{FetchFaultsAreTraps, LoadFaultsAreTraps, MasksAreUnseen, RefusedIsUnseen};
 ghost use Rattle.pip_outside.specs.Exits.{StoreFaultsAreTraps, UntakenWordsDoNotMatter};
 ghost use Rattle.pip_outside.specs.Outside.{NothingLeftOut, OutsideDependsOnOutside};
 ghost use Rattle.pip_outside.specs.Turns.{TurnsDependOnOutside};
@@ -16,6 +16,7 @@ pub fn law_outside()
     ensures turns { TurnsDependOnOutside }
     ensures unseen { UnseenIsUnseen }
     ensures refused { RefusedIsUnseen }
+    ensures masks { MasksAreUnseen }
     ensures nothing { NothingLeftOut }
 {}
 

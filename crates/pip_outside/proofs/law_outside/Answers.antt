@@ -1,3 +1,4 @@
+use Rattle.pip_outside.proofs.Confined.{masks_are_unseen}
 use Rattle.pip_outside.proofs.Leaving.{refused_is_unseen}
 use Rattle.pip_outside.proofs.Moved.{outside_depends_on_outside}
 use Rattle.pip_outside.proofs.Nothing.{nothing_left_out}
@@ -11,5 +12,6 @@ returns c = record {
   turns = turns_depend_on_outside;
   unseen = unseen_is_unseen;
   refused = refused_is_unseen;
+  masks = masks_are_unseen;
   nothing = nothing_left_out;
 }
