@@ -15,7 +15,7 @@ use Rattle.pip_model.specs.Answers.{Answer, Five, answer_unless, first_met, list
 use Rattle.pip_model.specs.Answers.{pair_at, words_cleared, words_without}
 use Rattle.pip_model.specs.CountToMap.{count_refusals, count_to_map, pages_needed}
 use Rattle.pip_model.specs.CreatePartition.{create_partition, create_refusals, newborn}
-use Rattle.pip_model.specs.DeletePartition.{delete_partition, some_run, tree_without_subtree}
+use Rattle.pip_model.specs.DeletePartition.{delete_refusals, delete_partition, some_run, tree_without_subtree}
 use Rattle.pip_model.specs.Answers.{child_name, child_of, page_of}
 use Rattle.pip_model.specs.Deliver.{deliver, deliver_to, nearest_above, nearest_among, nearest_taker, taker_or}
 use Rattle.pip_model.specs.Handlers.{block, block_at, context_reached, handler, handler_at, is_reached, save_place}
@@ -31,19 +31,19 @@ use Rattle.pip_base.specs.Status.{status_number}
 use Rattle.pip_base.specs.declared.outcome.Outcome.{Outcome}
 use Rattle.pip_base.specs.declared.outcome.Outcome.TheVariants as O
 use Rattle.pip_base.specs.declared.types.Pair.{Pair}
-use Rattle.pip_model.specs.AddVAddr.{add_vaddr, exceeds, with_row}
-use Rattle.pip_model.specs.Collect.{collect, first_va, has_row_in, returned_pages, table_for}
+use Rattle.pip_model.specs.AddVAddr.{add_refusals, add_vaddr, exceeds, with_row}
+use Rattle.pip_model.specs.Collect.{collect_refusals, collect, first_va, has_row_in, returned_pages, table_for}
 use Rattle.pip_model.specs.Collect.{without_table, words_with_chain}
 use Rattle.pip_model.specs.Events.{Event}
 use Rattle.pip_model.specs.Events as E
 use Rattle.pip_model.specs.Handlers.{save, saved_to}
 use Rattle.pip_model.specs.Happens.{access_number, answer, call, call_named, fault_number, fault_vector, load_happens}
 use Rattle.pip_model.specs.Happens.{on_running, read_of, what_happens, with_word, written_over, wrote}
-use Rattle.pip_model.specs.MappedInChild.{holder_born, mapped_in_child}
+use Rattle.pip_model.specs.MappedInChild.{find_refusals, holder_born, mapped_in_child}
 use Rattle.pip_model.specs.Poll.{lines_with, lowest_line, may_take, none_taken, poll, poll_line, take_line}
 use Rattle.pip_model.specs.Prepare.{PageChain, Pages, Refused, go_on, next_in_chain, page_chain, page_refusals, prepare}
 use Rattle.pip_model.specs.Prepare.{prepare_with, tree_with_table, with_table}
-use Rattle.pip_model.specs.RemoveVAddr.{remove_vaddr, without_row}
+use Rattle.pip_model.specs.RemoveVAddr.{remove_refusals, remove_vaddr, without_row}
 use Rattle.pip_model.specs.Switching.{node_name, reply_happens, reply_unless, target_node, with_reply, with_zeros, yield}
 use Rattle.pip_model.specs.Switching.{yield_happens, yield_refusals, yield_to, yielded_tree}
 use Rattle.pip_model.specs.declared.call_name.CallName.{CallName}
@@ -256,15 +256,8 @@ module _ (t : Tree) where
       by x false = refl
 
   pub create_refused : (p : ℕ) (a : Five) → first_met (create_refusals (bare t) p a) ≡ first_met (create_refusals t p a)
-  create_refused p a = λ i. first_met (some_unaligned (list_of a) ∷ some_null (list_of a)
-      ∷ (repeats (list_of a), S.Repeated)
-      ∷ (list_any (λ x. not (is_some (row_at (rows_bare p i) (vpage x)))) (list_of a), S.NotMapped)
-      ∷ (list_any (λ x. not (free_bare p (vpage x) i)) (list_of a), S.NotFree)
-      ∷ (
-        list_any (λ x. not (bit_and 3 (unwrap_or (option_map (λ r. r.rights) (row_at (rows_bare p i) (vpage x))) 0)
-            == 3)) (list_of a),
-        S.NoRight,
-      ) ∷ [])
+  create_refused p a = cc (rows_bare p, free_bare p (vpage a.x0), free_bare p (vpage a.x1), free_bare p (vpage a.x2),
+      free_bare p (vpage a.x3), free_bare p (vpage a.x4))
 
   page_bare : (p a : ℕ) → page_of (bare t) p a ≡ page_of t p a
   page_bare p a = ap (λ rs. unwrap_or (option_map (λ r. r.frame) (row_at rs (vpage a))) 0) (rows_bare p)
@@ -283,27 +276,11 @@ module _ (t : Tree) where
       })
     where
       newborn_bare : newborn (bare t) p a ≡ newborn t p a
-      newborn_bare = λ i. record {
-        name = page_bare p a.x0 i;
-        up = p;
-        born = a.x0;
-        base = record {
-          descriptor = record { va = a.x0; frame = page_bare p a.x0 i };
-          mmu = record { va = a.x1; frame = page_bare p a.x1 i };
-          shadow1 = record { va = a.x2; frame = page_bare p a.x2 i };
-          shadow2 = record { va = a.x3; frame = page_bare p a.x3 i };
-          list = record { va = a.x4; frame = page_bare p a.x4 i };
-        };
-        tables = [];
-        more = [];
-        rows = [];
-        masked = false;
-        pending = [];
-      }
+      newborn_bare = cc (page_bare p a.x0, page_bare p a.x1, page_bare p a.x2, page_bare p a.x3, page_bare p a.x4)
 
   delete_bare : (rs : List ℕ) (p d : ℕ) → SameAnswers (delete_partition (bare t) rs p d) (delete_partition t rs p d)
-  delete_bare rs p d = unless _ _ _ _ (λ i. first_met (some_unaligned (d ∷ []) ∷ some_null (d ∷ [])
-      ∷ (none_bare p d i, S.NotChild) ∷ (runs i, S.Running) ∷ []))
+  delete_bare rs p d = unless (first_met (delete_refusals (bare t) rs p d)) (first_met (delete_refusals t rs p d)) _ _
+      (cc (none_bare p d, runs))
       (record {
         status = refl;
         value = refl;
@@ -324,8 +301,7 @@ module _ (t : Tree) where
           λ i. record { frames = t.frames; root = t.root; others = os i; words = words_cleared (cs i) t.words }
 
   count_refused : (p d cv : ℕ) → first_met (count_refusals (bare t) p d cv) ≡ first_met (count_refusals t p d cv)
-  count_refused p d cv = λ i. first_met (some_unaligned (d ∷ cv ∷ []) ∷ some_null (d ∷ cv ∷ [])
-      ∷ (none_bare p d i, S.NotChild) ∷ [])
+  count_refused p d cv = cc (none_bare p d)
 
   count_bare : (p d cv : ℕ) → SameAnswers (count_to_map (bare t) p d cv) (count_to_map t p d cv)
   count_bare p d cv = unless _ _ _ _ (count_refused p d cv)
@@ -336,8 +312,7 @@ module _ (t : Tree) where
       })
 
   mapped_bare : (p v : ℕ) → SameAnswers (mapped_in_child (bare t) p v) (mapped_in_child t p v)
-  mapped_bare p v = unless _ _ _ _ (λ i. first_met (some_unaligned (v ∷ []) ∷ some_null (v ∷ [])
-      ∷ (not (is_some (row_at (rows_bare p i) (vpage v))), S.NotMapped) ∷ []))
+  mapped_bare p v = unless (first_met (find_refusals (bare t) p v)) (first_met (find_refusals t p v)) _ _ (cc (rows_bare p))
       (record {
         status = refl;
         value = ap (λ g. holder_born (holder (bare t) p g)) (page_bare p v)
@@ -350,9 +325,8 @@ module _ (t : Tree) where
       by (Some x) = refl
 
   remove_bare : (p d cv : ℕ) → SameAnswers (remove_vaddr (bare t) p d cv) (remove_vaddr t p d cv)
-  remove_bare p d cv = unless _ _ _ _ (λ i. first_met (some_unaligned (d ∷ cv ∷ []) ∷ some_null (d ∷ cv ∷ [])
-      ∷ (none_bare p d i, S.NotChild)
-      ∷ (is_none (row_at (child_of_bare p d i).rows (vpage cv)), S.Absent) ∷ (not (lent i), S.LentOn) ∷ []))
+  remove_bare p d cv = unless (first_met (remove_refusals (bare t) p d cv)) (first_met (remove_refusals t p d cv)) _ _
+      (cc (none_bare p d, child_of_bare p d, lent))
       (record {
         status = refl;
         value = refl;
@@ -363,13 +337,8 @@ module _ (t : Tree) where
       lent = ap (λ n. free (bare t) n (vpage cv)) (child_name_bare p d) ∙ free_bare (child_name t p d) (vpage cv)
 
   add_bare : (p v d cv n : ℕ) → SameAnswers (add_vaddr (bare t) p v d cv n) (add_vaddr t p v d cv n)
-  add_bare p v d cv n = unless _ _ _ _ (λ i. first_met (some_unaligned (v ∷ d ∷ cv ∷ []) ∷ some_null (v ∷ d ∷ cv ∷ [])
-      ∷ (none_bare p d i, S.NotChild)
-      ∷ (not (is_some (row_at (rows_bare p i) (vpage v))), S.NotMapped)
-      ∷ (not (free_bare p (vpage v) i), S.NotFree)
-      ∷ (exceeds n (unwrap_or (option_map (λ r. r.rights) (row_at (rows_bare p i) (vpage v))) 0), S.NoRight)
-      ∷ (not (has_table (child_of_bare p d i) (vpage cv)), S.NoTable)
-      ∷ (is_some (row_at (child_of_bare p d i).rows (vpage cv)), S.Taken) ∷ []))
+  add_bare p v d cv n = unless (first_met (add_refusals (bare t) p v d cv n)) (first_met (add_refusals t p v d cv n)) _ _
+      (cc (none_bare p d, child_of_bare p d, rows_bare p, free_bare p (vpage v)))
       (record {
         status = refl;
         value = refl;
@@ -381,10 +350,8 @@ module _ (t : Tree) where
       row g = record { at = vpage cv; frame = g; rights = n }
 
   collect_bare : (p d cv : ℕ) → SameAnswers (collect (bare t) p d cv) (collect t p d cv)
-  collect_bare p d cv = unless _ _ _ _ (λ i. first_met (some_unaligned (d ∷ cv ∷ []) ∷ some_null (d ∷ cv ∷ [])
-      ∷ (none_bare p d i, S.NotChild)
-      ∷ (is_none (table_for (child_of_bare p d i) (vpage cv)), S.NoTable)
-      ∷ (has_row_in (child_of_bare p d i) (dir (vpage cv)), S.NotEmpty) ∷ []))
+  collect_bare p d cv = unless (first_met (collect_refusals (bare t) p d cv)) (first_met (collect_refusals t p d cv)) _ _
+      (cc (none_bare p d, child_of_bare p d))
       (record {
         status = refl;
         value = ap first_va gs;
@@ -403,14 +370,8 @@ module _ (t : Tree) where
 
   chain_bare : (p k : ℕ) (seen : List ℕ) (a : ℕ) → page_chain (bare t) p k seen a ≡ page_chain t p k seen a
   chain_bare p zero seen a = refl
-  chain_bare p (suc k) seen a = (λ i. go_on (first_met (some_unaligned (a ∷ []) ∷ some_null (a ∷ [])
-      ∷ (has seen a, S.Repeated)
-      ∷ (not (is_some (row_at (rows_bare p i) (vpage a))), S.NotMapped)
-      ∷ (not (free_bare p (vpage a) i), S.NotFree)
-      ∷ (not (bit_and 3 (unwrap_or (option_map (λ r. r.rights) (row_at (rows_bare p i) (vpage a))) 0) == 3), S.NoRight)
-      ∷ [])) (record { va = a; frame = page_bare p a i })
-      (page_chain (bare t) p k (a ∷ seen) (word_of (t.words (page_bare p a i)) 0)))
-      ∙ ap (go_on (first_met (page_refusals t p seen a)) (pair_at t p a)) (chain_bare p k (a ∷ seen) (next_in_chain t p a))
+  chain_bare p (suc k) seen a =
+      cc (rows_bare p, free_bare p (vpage a), page_bare p a, chain_bare p k (a ∷ seen) (next_in_chain t p a))
 
   prepare_bare : (p d cv a : ℕ) → SameAnswers (prepare (bare t) p d cv a) (prepare t p d cv a)
   prepare_bare p d cv a = unless _ _ _ _ (count_refused p d cv)
@@ -562,13 +523,7 @@ module _ (w : World) where
         where
           refusals : first_met (yield_refusals v r.name a o) ≡ first_met (yield_refusals w r.name a q)
           refusals =
-              let h = ap (λ m. handler v.tree m a.x1) n.0 ∙ handler_bare w.tree (node_name q) a.x1 in
-              λ i. first_met ((not (a.x0 == 1) && not (is_place a.x0), S.NotAligned)
-              ∷ (n.1 i, S.NotChild)
-              ∷ (nat_le 256 a.x1 || nat_le 257 a.x2, S.BadVector)
-              ∷ (not (n.0 i == r.name) && has (running w) (n.0 i), S.Running)
-              ∷ (is_none (h i), S.NoHandler)
-              ∷ (nat_lt a.x2 256 && not (is_reached (place_bare w.tree r.name a.x2 i)), S.BadSave) ∷ [])
+              cc (n.0, n.1, handler_bare w.tree (node_name q) a.x1, place_bare w.tree r.name a.x2)
 
           tree : bare (yielded_tree v.tree r a.x2) ≡ bare (yielded_tree w.tree r a.x2)
           tree =
