@@ -1,7 +1,7 @@
 -- The mask of a partition that isn't the root is read by no event.
 use Rattle.std.proofs.Common.{◌≡◌, ◌≢◌, ℕ, zero, suc, ◌+◌, ◌*◌, ◌%◌, ◌==◌, ◌&&◌, ◌||◌, not, Bool, true, false, cond, List, [], ◌∷◌, ◌++◌}
 use Rattle.std.proofs.Common.{map, refl, sym, ap, ap₂, ◌∙◌, Option, Some, None}
-use Rattle.std.specs.Prelude.{filter, find, flat_map, bit_and, is_none, is_some, nat_le, nat_lt, option_map, slice_set, unwrap_or}
+use Rattle.std.specs.Prelude.{filter, find, flat_map, is_none, is_some, nat_le, nat_lt, option_map, slice_set, unwrap_or}
 use Rattle.std.specs.List.{list_any}
 use Rattle.std.proofs.lemmas.Bool.{ne_eqb}
 use Rattle.pip_base.specs.declared.types.Access.{Access}
@@ -10,9 +10,8 @@ use Rattle.pip_base.specs.declared.types.Ctx.{Ctx}
 use Rattle.pip_base.specs.declared.types.Size.{Size}
 use Rattle.pip_base.specs.declared.types.Size.TheVariants.{Word}
 use Rattle.pip_base.specs.declared.outcome.Status.{Status}
-use Rattle.pip_base.specs.declared.outcome.Status.TheVariants as S
-use Rattle.pip_model.specs.Answers.{Answer, Five, answer_unless, first_met, list_of, nobody, some_null, some_unaligned}
-use Rattle.pip_model.specs.Answers.{pair_at, words_cleared, words_without}
+use Rattle.pip_model.specs.Answers.{Answer, Five, answer_unless, first_met, nobody}
+use Rattle.pip_model.specs.Answers.{words_cleared, words_without}
 use Rattle.pip_model.specs.CountToMap.{count_refusals, count_to_map, pages_needed}
 use Rattle.pip_model.specs.CreatePartition.{create_partition, create_refusals, newborn}
 use Rattle.pip_model.specs.DeletePartition.{delete_refusals, delete_partition, some_run, tree_without_subtree}
@@ -20,19 +19,19 @@ use Rattle.pip_model.specs.Answers.{child_name, child_of, page_of}
 use Rattle.pip_model.specs.Deliver.{deliver, deliver_to, nearest_above, nearest_among, nearest_taker, taker_or}
 use Rattle.pip_model.specs.Handlers.{block, block_at, context_reached, handler, handler_at, is_reached, save_place}
 use Rattle.pip_model.specs.Handlers.{store_at}
-use Rattle.pip_model.specs.Lists.{has, repeats}
+use Rattle.pip_model.specs.Lists.{has}
 use Rattle.pip_model.specs.Reach.{Alignment, Faulted, Place, Reached, Unmapped, is_misaligned, reach}
 use Rattle.pip_model.specs.Reach.{reach_by_row, word_reached}
-use Rattle.pip_model.specs.Tree.{Node, Row, Table, Tree, dir, has_table, word_of, ancestry, below, chain, chain_in, change_at, change_node, child_at, children, config}
-use Rattle.pip_model.specs.Tree.{free, hidden, holder, holds, is_free_row, is_place, names_of, node, nodes, row_at, vpage}
+use Rattle.pip_model.specs.Tree.{Node, Row, Table, Tree, dir, word_of, ancestry, below, chain, chain_in, change_at, change_node, child_at, children, config}
+use Rattle.pip_model.specs.Tree.{free, hidden, holder, holds, is_free_row, names_of, node, nodes, row_at, vpage}
 use Rattle.pip_model.specs.Worlds.{Happened, World, lines_in, masked_node, running, runs_on, save_running}
 use Rattle.pip_model.specs.Worlds.{with_masked, with_pending}
 use Rattle.pip_base.specs.Status.{status_number}
 use Rattle.pip_base.specs.declared.outcome.Outcome.{Outcome}
 use Rattle.pip_base.specs.declared.outcome.Outcome.TheVariants as O
 use Rattle.pip_base.specs.declared.types.Pair.{Pair}
-use Rattle.pip_model.specs.AddVAddr.{add_refusals, add_vaddr, exceeds, with_row}
-use Rattle.pip_model.specs.Collect.{collect_refusals, collect, first_va, has_row_in, returned_pages, table_for}
+use Rattle.pip_model.specs.AddVAddr.{add_refusals, add_vaddr, with_row}
+use Rattle.pip_model.specs.Collect.{collect_refusals, collect, first_va, returned_pages, table_for}
 use Rattle.pip_model.specs.Collect.{without_table, words_with_chain}
 use Rattle.pip_model.specs.Events.{Event}
 use Rattle.pip_model.specs.Events as E
@@ -41,7 +40,7 @@ use Rattle.pip_model.specs.Happens.{access_number, answer, call, call_named, fau
 use Rattle.pip_model.specs.Happens.{on_running, read_of, what_happens, with_word, written_over, wrote}
 use Rattle.pip_model.specs.MappedInChild.{find_refusals, holder_born, mapped_in_child}
 use Rattle.pip_model.specs.Poll.{lines_with, lowest_line, may_take, none_taken, poll, poll_line, take_line}
-use Rattle.pip_model.specs.Prepare.{PageChain, Pages, Refused, go_on, next_in_chain, page_chain, page_refusals, prepare}
+use Rattle.pip_model.specs.Prepare.{PageChain, Pages, Refused, next_in_chain, page_chain, prepare}
 use Rattle.pip_model.specs.Prepare.{prepare_with, tree_with_table, with_table}
 use Rattle.pip_model.specs.RemoveVAddr.{remove_refusals, remove_vaddr, without_row}
 use Rattle.pip_model.specs.Switching.{node_name, reply_happens, reply_unless, target_node, with_reply, with_zeros, yield}
@@ -111,6 +110,15 @@ ancestors root (x ∷ xs) p = by (x.name == p) _ _ _ _ (ancestors root xs x.up) 
     by true us vs ys zs e d = ap (λ l. unmasked x ∷ l) e
     by false us vs ys zs e d = d
 
+no_node : (o : Option Node) → is_none (option_map unmasked o) ≡ is_none o
+no_node None = refl
+no_node (Some x) = refl
+
+joined : (n : ℕ) (root : Node) (xs ys : List Node) (u v : ℕ → Option (ℕ → ℕ)) → xs ≡ ys → u ≡ v
+    → ◌≡◌ {A = Tree} (record { frames = n; root = root; others = xs; words = u })
+    (record { frames = n; root = root; others = ys; words = v })
+joined n root xs ys u v e d = λ i. record { frames = n; root = root; others = e i; words = d i }
+
 -- ---- what is read of a tree
 
 module _ (t : Tree) where
@@ -176,11 +184,7 @@ module _ (t : Tree) where
       by (Some a) = reach_bare p a Store Word
 
   none_bare : (p d : ℕ) → is_none (child_at (bare t) p d) ≡ is_none (child_at t p d)
-  none_bare p d = ap is_none (child_bare p d) ∙ by (child_at t p d)
-    where
-      by : (o : Option Node) → is_none (option_map unmasked o) ≡ is_none o
-      by None = refl
-      by (Some x) = refl
+  none_bare p d = ap is_none (child_bare p d) ∙ no_node (child_at t p d)
 
   child_of_bare : (p d : ℕ) → child_of (bare t) p d ≡ unmasked (child_of t p d)
   child_of_bare p d = ap (λ o. unwrap_or o nobody) (child_bare p d) ∙ by (child_at t p d)
@@ -200,13 +204,9 @@ module _ (t : Tree) where
   free_bare : (p v : ℕ) → free (bare t) p v ≡ free t p v
   free_bare p v = ap (λ rs. is_free_row (bare t) p (row_at rs v)) (rows_bare p) ∙ by (row_at (node t p).rows v)
     where
-      at : (o : Option Node) → is_none (option_map unmasked o) ≡ is_none o
-      at None = refl
-      at (Some x) = refl
-
       by : (o : Option Row) → is_free_row (bare t) p o ≡ is_free_row t p o
       by None = refl
-      by (Some r) = ap is_none (holder_bare p r.frame) ∙ at (holder t p r.frame)
+      by (Some r) = ap is_none (holder_bare p r.frame) ∙ no_node (holder t p r.frame)
 
   ancestry_bare : (p : ℕ) → ancestry (bare t) p ≡ ancestry t p
   ancestry_bare p =
@@ -244,20 +244,22 @@ module _ (t : Tree) where
   changed : (c : ℕ) (f : Node → Node) (u v : ℕ → Option (ℕ → ℕ)) → ((x : Node) → unmasked (f (unmasked x))
       ≡ unmasked (f x)) → u ≡ v
       → bare (record (change_node c f (bare t)) { words = u }) ≡ bare (record (change_node c f t) { words = v })
-  changed c f u v s e = λ i. record {
-    frames = t.frames;
-    root = change_at c f t.root;
-    others = mapped (change_at c f) (λ x. by x (x.name == c)) t.others i;
-    words = e i;
-  }
+  changed c f u v s e =
+      joined _ _ _ _ _ _ (mapped (change_at c f) (λ x. by x (x.name == c)) t.others) e
     where
       by : (x : Node) (b : Bool) → unmasked (cond b (f (unmasked x)) (unmasked x)) ≡ unmasked (cond b (f x) x)
       by x true = s x
       by x false = refl
 
   pub create_refused : (p : ℕ) (a : Five) → first_met (create_refusals (bare t) p a) ≡ first_met (create_refusals t p a)
-  create_refused p a = cc (rows_bare p, free_bare p (vpage a.x0), free_bare p (vpage a.x1), free_bare p (vpage a.x2),
-      free_bare p (vpage a.x3), free_bare p (vpage a.x4))
+  create_refused p a = cc (
+    rows_bare p,
+    free_bare p (vpage a.x0),
+    free_bare p (vpage a.x1),
+    free_bare p (vpage a.x2),
+    free_bare p (vpage a.x3),
+    free_bare p (vpage a.x4),
+  )
 
   page_bare : (p a : ℕ) → page_of (bare t) p a ≡ page_of t p a
   page_bare p a = ap (λ rs. unwrap_or (option_map (λ r. r.frame) (row_at rs (vpage a))) 0) (rows_bare p)
@@ -267,16 +269,12 @@ module _ (t : Tree) where
       (record {
         status = refl;
         value = refl;
-        tree = λ i. record {
-          frames = t.frames;
-          root = t.root;
-          others = unmasked (newborn_bare i) ∷ twice t.others i;
-          words = words_without (config (newborn_bare i)) t.words;
-        };
+        tree = joined _ _ _ _ _ _ (ap₂ (λ x l. unmasked x ∷ l) newborn_bare (twice t.others))
+            (ap (λ x. words_without (config x) t.words) newborn_bare);
       })
     where
       newborn_bare : newborn (bare t) p a ≡ newborn t p a
-      newborn_bare = cc (page_bare p a.x0, page_bare p a.x1, page_bare p a.x2, page_bare p a.x3, page_bare p a.x4)
+      newborn_bare = cc (rows_bare p)
 
   delete_bare : (rs : List ℕ) (p d : ℕ) → SameAnswers (delete_partition (bare t) rs p d) (delete_partition t rs p d)
   delete_bare rs p d = unless (first_met (delete_refusals (bare t) rs p d)) (first_met (delete_refusals t rs p d)) _ _
@@ -298,7 +296,7 @@ module _ (t : Tree) where
           ∙ filtered (λ x. not (has (ancestry t x.name) c)) t.others in
           let os = ap (map unmasked) o ∙ twice (filter (λ x. not (has (ancestry t x.name) c)) t.others) in
           let cs = sym (configs (below (bare t) c)) ∙ ap (flat_map config) (below_bare c) ∙ configs (below t c) in
-          λ i. record { frames = t.frames; root = t.root; others = os i; words = words_cleared (cs i) t.words }
+          joined _ _ _ _ _ _ os (ap (λ l. words_cleared l t.words) cs)
 
   count_refused : (p d cv : ℕ) → first_met (count_refusals (bare t) p d cv) ≡ first_met (count_refusals t p d cv)
   count_refused p d cv = cc (none_bare p d)
@@ -371,7 +369,7 @@ module _ (t : Tree) where
   chain_bare : (p k : ℕ) (seen : List ℕ) (a : ℕ) → page_chain (bare t) p k seen a ≡ page_chain t p k seen a
   chain_bare p zero seen a = refl
   chain_bare p (suc k) seen a =
-      cc (rows_bare p, free_bare p (vpage a), page_bare p a, chain_bare p k (a ∷ seen) (next_in_chain t p a))
+      cc (rows_bare p, free_bare p (vpage a), chain_bare p k (a ∷ seen) (next_in_chain t p a))
 
   prepare_bare : (p d cv a : ℕ) → SameAnswers (prepare (bare t) p d cv a) (prepare t p d cv a)
   prepare_bare p d cv a = unless _ _ _ _ (count_refused p d cv)
@@ -416,12 +414,7 @@ module _ (w : World) where
   still o = record { outcome = refl; tree = same_tree w.tree; cpus = refl }
 
   saved : (c : Ctx) (p k : ℕ) → bare (save (bare w.tree) p k c) ≡ bare (save w.tree p k c)
-  saved c p k = λ i. record {
-    frames = w.tree.frames;
-    root = w.tree.root;
-    others = twice w.tree.others i;
-    words = (saved_to w.tree c (place_bare w.tree p k i)).words;
-  }
+  saved c p k = joined _ _ _ _ _ _ (twice w.tree.others) (ap (λ q. (saved_to w.tree c q).words) (place_bare w.tree p k))
 
   -- the nearest taker, where a list of nodes has no masks
   among : (x : World) → ((p k : ℕ) → handler v.tree p k ≡ handler x.tree p k) → running v ≡ running x → (k born : ℕ)
@@ -527,14 +520,10 @@ module _ (w : World) where
 
           tree : bare (yielded_tree v.tree r a.x2) ≡ bare (yielded_tree w.tree r a.x2)
           tree =
-              let b = cond (r.name == w.tree.root.name) false w.tree.root.masked in
-              λ i. record {
-                frames = w.tree.frames;
-                root = masked_node w.tree.root.name b w.tree.root;
-                others = mapped (masked_node w.tree.root.name b) (λ x. refl) w.tree.others i;
-                words = (saved_to w.tree (with_zeros r.ctx)
-                    (cond (nat_lt a.x2 256) (place_bare w.tree r.name a.x2 i) (Faulted Unmapped))).words;
-              }
+              joined _ _ _ _ _ _ (mapped (masked_node w.tree.root.name
+              (cond (r.name == w.tree.root.name) false w.tree.root.masked)) (λ x. refl) w.tree.others)
+              (ap (λ q. (saved_to w.tree (with_zeros r.ctx) (cond (nat_lt a.x2 256) q (Faulted Unmapped))).words)
+              (place_bare w.tree r.name a.x2))
 
           by : (n : ℕ) (s : Option Status) (h : Option Ctx)
               → Same (reply_unless v cpu r s (yield_happens v cpu r a n h))
@@ -554,12 +543,7 @@ module _ (w : World) where
   called (Masks b) cpu r a = replied cpu r _ _ (record {
     status = refl;
     value = refl;
-    tree = λ i. record {
-      frames = w.tree.frames;
-      root = masked_node r.name b w.tree.root;
-      others = mapped (masked_node r.name b) (λ x. refl) w.tree.others i;
-      words = w.tree.words;
-    };
+    tree = joined _ _ _ _ _ _ (mapped (masked_node r.name b) (λ x. refl) w.tree.others) refl;
   })
   called Unknown cpu r a = replied cpu r _ _ (record { status = refl; value = refl; tree = same_tree w.tree })
 
@@ -587,18 +571,9 @@ module _ (w : World) where
 
           by : (o : Option Occupant) → bare (with_pending js (with_masked n true (save_running v.tree o)))
               ≡ bare (with_pending js (with_masked n true (save_running w.tree o)))
-          by None = λ i. record {
-            frames = w.tree.frames;
-            root = lines_in w.tree.root.name js (masked_node n true w.tree.root);
-            others = others w.tree.others i;
-            words = w.tree.words;
-          }
-          by (Some r) = λ i. record {
-            frames = w.tree.frames;
-            root = lines_in w.tree.root.name js (masked_node n true w.tree.root);
-            others = others w.tree.others i;
-            words = (saved_to w.tree r.ctx (place_bare w.tree r.name 63 i)).words;
-          }
+          by None = joined _ _ _ _ _ _ (others w.tree.others) refl
+          by (Some r) = joined _ _ _ _ _ _ (others w.tree.others)
+              (ap (λ q. (saved_to w.tree r.ctx q).words) (place_bare w.tree r.name 63))
 
       line : (j : Option ℕ) → Same (poll_line v cpu o j) (poll_line w cpu o j)
       line None = untaken o
@@ -626,12 +601,8 @@ module _ (w : World) where
   masks_tell_nothing (E.Call cpu n a) = by_runner cpu (runs_on w cpu) _ _ (λ r. called (call_named n) cpu r a)
   masks_tell_nothing (E.Raise j) = record {
     outcome = refl;
-    tree = λ i. record {
-      frames = w.tree.frames;
-      root = lines_in w.tree.root.name (lines_with j w.tree.root.pending) w.tree.root;
-      others = mapped (lines_in w.tree.root.name (lines_with j w.tree.root.pending)) (λ x. refl) w.tree.others i;
-      words = w.tree.words;
-    };
+    tree = joined _ _ _ _ _ _
+        (mapped (lines_in w.tree.root.name (lines_with j w.tree.root.pending)) (λ x. refl) w.tree.others) refl;
     cpus = refl;
   }
   masks_tell_nothing (E.Poll cpu) = polled cpu (runs_on w cpu)
