@@ -23,7 +23,7 @@ use Rattle.pip_model.specs.Turn.{turn}
 use Rattle.pip_model.specs.Worlds.{IsSoundWorld, World, runs_on}
 use Rattle.pip_model.specs.declared.processors.Occupant.{Occupant}
 use Rattle.pip_outside.specs.Exits.{IsConfined}
-use Rattle.pip_outside.specs.Outside.{ReadsOutside}
+use Rattle.pip_outside.specs.Outside.{ReadsOutside, seen_but}
 use Rattle.pip_outside.specs.Unseen.{Answers}
 use Rattle.pip_hostile.proofs.Choosing.{nobody_hostile}
 
@@ -49,7 +49,7 @@ module _ (own : List ℕ) (blind : ℕ → ℕ → Bool) where
 
     deeds : (ds : List May) → H.deeds_read_outside own blind w cpu ds ≡ true → (r : Occupant) → runs_on w cpu ≡ Some r
         → (place : ℕ) (d : May) → slice_get ds place ≡ Some d → is_its w.tree.root.name (name_on w cpu) d ≡ true
-        → (DeedAnswers w cpu d.deed → ⊥) → ReadsOutside own blind w (deed_event cpu d.deed)
+        → (DeedAnswers w cpu d.deed → ⊥) → ReadsOutside own (seen_but blind) w (deed_event cpu d.deed)
     deeds [] e r k place d at its n = cc
     deeds (x ∷ ds) e r k zero d at its n =
         let h = both _ _ e in
@@ -58,7 +58,7 @@ module _ (own : List ℕ) (blind : ℕ → ℕ → Bool) where
           | inl y ↦ absurd (not_both _ (off _ y) (ap (is_its w.tree.root.name (name_on w cpu)) q ∙ its))
           | inr y ↦ elim (one _ _ y) [
             | inl z ↦ absurd (n (subst (λ m. DeedAnswers w cpu m.deed) q (answers x.deed z r k)))
-            | inr z ↦ subst (λ m. ReadsOutside own blind w (deed_event cpu m.deed)) q
+            | inr z ↦ subst (λ m. ReadsOutside own (seen_but blind) w (deed_event cpu m.deed)) q
                 (reads own blind w (deed_event cpu x.deed) z)
           ]
         ]

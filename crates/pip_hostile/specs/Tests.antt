@@ -17,6 +17,7 @@ use Rattle.pip_model.specs.Reach.{reach}
 use Rattle.pip_model.specs.Turn.{turn}
 use Rattle.pip_model.specs.Worlds.{IsSoundWorld, World, runs_on}
 use Rattle.pip_outside.specs.Exits.{IsConfined}
+use Rattle.pip_outside.specs.Outside.{seen_but}
 use Rattle.pip_outside.specs.Tests.{all_read_outside, if_one_runs, is_confined, reads_outside}
 
 -- an outcome is that nothing more happened
@@ -50,7 +51,7 @@ looks_away own blind g w cpu = if is_hostile w.tree.root.name (name_on w cpu) g.
 
 -- where it is met the search looks away there, and a hostile partition that runs is confined
 pub record IsPassed (own : List ℕ) (blind : ℕ → ℕ → Bool) (g : Menu) (w : World) (cpu : ℕ) : Type 0 where
-  pub away : LooksAway own blind g w cpu
+  pub away : LooksAway own (seen_but blind) g w cpu
   pub confined : (p : ℕ) → name_on w cpu ≡ Some p → RunsHostile g w cpu → In p own × IsConfined w.tree p
 
 -- that is so of each state that passes the test

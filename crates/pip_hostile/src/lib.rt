@@ -5,7 +5,7 @@
 mod away;
 
 ghost use Rattle.pip_hostile.specs.Hostile.{CallsAreOnMenu, ConfinedKeepsToMenu, FetchFaultsAreOnMenu};
-ghost use Rattle.pip_hostile.specs.Hostile.{LoadFaultsAreOnMenu, MasksReadNone, StoreFaultsAreOnMenu};
+ghost use Rattle.pip_hostile.specs.Hostile.{LoadFaultsAreOnMenu, MasksReadNone, StoreFaultsAreOnMenu, StoresAreOnMenu};
 ghost use Rattle.pip_hostile.specs.Hostile.{TrapsAreOnMenu, TurnsHaveChoices, UntakenAreOnMenu, YieldsAreOnMenu};
 ghost use Rattle.pip_hostile.specs.Hostile.{YieldsReadThree};
 ghost use Rattle.pip_hostile.specs.Tests.{TestsPass};
@@ -31,4 +31,5 @@ pub fn law_menus()
     ensures yields { YieldsReadThree }
     ensures masks { MasksReadNone }
     ensures saves { YieldsAreOnMenu }
+    ensures words { StoresAreOnMenu }
 {}

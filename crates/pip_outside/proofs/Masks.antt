@@ -610,17 +610,17 @@ module _ (w : World) where
       (λ r. record { outcome = refl; tree = same_tree w.tree; cpus = refl })
 
 -- trees that differ in masks alone look alike
-pub bare_alike : (blind : ℕ → ℕ → Bool) (t u : Tree) → bare t ≡ bare u → AlikeTrees blind t u
-bare_alike blind t u e = record {
+pub bare_alike : (look : ℕ → ℕ → ℕ → ℕ) (t u : Tree) → bare t ≡ bare u → AlikeTrees look t u
+bare_alike look t u e = record {
   nodes = ap {A = Tree} (λ x. record x { words = u.words }) e;
   words = λ g. let f = ap (λ x. x.words g) e in
-      record { there = ap is_some f; words = λ i n. ap (λ o. word_of o i) f };
+      record { there = ap is_some f; words = λ i. ap (λ o. look g i (word_of o i)) f };
 }
 
 -- so do they if the mask of a partition that isn't the root is set
-pub masked_alike : (blind : ℕ → ℕ → Bool) (p : ℕ) (b : Bool) (t : Tree) → p ≢ t.root.name
-    → AlikeTrees blind (with_masked p b t) t
-masked_alike blind p b t n = bare_alike blind (with_masked p b t) t (λ i. record {
+pub masked_alike : (look : ℕ → ℕ → ℕ → ℕ) (p : ℕ) (b : Bool) (t : Tree) → p ≢ t.root.name
+    → AlikeTrees look (with_masked p b t) t
+masked_alike look p b t n = bare_alike look (with_masked p b t) t (λ i. record {
   frames = t.frames;
   root = record t.root { masked = cond (ne_eqb t.root.name p (λ e. n (sym e)) i) b t.root.masked };
   others = stays t.others i;
@@ -632,7 +632,7 @@ masked_alike blind p b t n = bare_alike blind (with_masked p b t) t (λ i. recor
     stays (x ∷ xs) = ap (λ l. unmasked x ∷ l) (stays xs)
 
 -- what is reached is the same in trees that look alike
-pub reach_alike : (blind : ℕ → ℕ → Bool) (t u : Tree) (p va : ℕ) (a : Access) (z : Size) → AlikeTrees blind t u
+pub reach_alike : (look : ℕ → ℕ → ℕ → ℕ) (t u : Tree) (p va : ℕ) (a : Access) (z : Size) → AlikeTrees look t u
     → reach t p va a z ≡ reach u p va a z
-reach_alike blind t u p va a z k =
+reach_alike look t u p va a z k =
     sym (reach_bare t p va a z) ∙ ap (λ x. reach x p va a z) k.nodes ∙ reach_bare u p va a z
