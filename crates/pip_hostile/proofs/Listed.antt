@@ -5,6 +5,7 @@ use Rattle.std.specs.Prelude.{is_none, nat_le, nat_lt, option_map}
 use Rattle.pip_base.specs.declared.outcome.Outcome.TheVariants as O
 use Rattle.pip_base.specs.declared.types.Access.TheVariants.{Store}
 use Rattle.pip_base.specs.declared.types.Ctx.{Ctx}
+use Rattle.pip_base.specs.declared.types.Size.{Size}
 use Rattle.pip_base.specs.declared.types.Size.TheVariants.{Word}
 use Rattle.pip_every.specs.Menus.{Menu, deed_event}
 use Rattle.pip_every.specs.declared.menus.Deed.{Deed}
@@ -25,7 +26,7 @@ use Rattle.pip_model.specs.Deliver.{deliver, deliver_to, nearest_taker}
 use Rattle.pip_model.specs.Events.{Event}
 use Rattle.pip_model.specs.Events as E
 use Rattle.pip_model.specs.Happens.{call, call_named, event, fault_number, fault_vector, on_running, what_happens}
-use Rattle.pip_model.specs.Happens.{with_word, wrote}
+use Rattle.pip_model.specs.Happens.{with_word, written_over, wrote}
 use Rattle.pip_model.specs.Worlds.{Happened, World, done, running, runs_on}
 use Rattle.pip_model.specs.declared.call_name.CallName.{CallName}
 use Rattle.pip_model.specs.declared.call_name.CallName.TheVariants.{Yields}
@@ -147,32 +148,42 @@ fetch_faults_are_on_menu own look g w cpu r f e q m = as_trap own look g w cpu _
     by (D.Call n args) s = s
 
 pub stores_are_on_menu : StoresAreOnMenu
-stores_are_on_menu own look g w cpu va x y r h i k q l d =
-    on_menu own look g w cpu (E.Store cpu va Word x) (D.StoreWord va y) d tt
-    (ap (λ z. z.outcome) (does x) ∙ sym (ap (λ z. z.outcome) (does y)))
+stores_are_on_menu own look g w cpu va z x a y r h i k q e l d =
+    on_menu own look g w cpu (E.Store cpu va z x) (D.StoreWord a y) d tt
+    (ap (λ z. z.outcome) one ∙ sym (ap (λ z. z.outcome) two))
     (record {
-      tree = subst (λ z. AlikeTrees look z.world.tree (what_happens w (E.Store cpu va Word y)).world.tree) (sym (does x))
-          (subst (λ z. AlikeTrees look (with_word w.tree h i x) z.world.tree) (sym (does y))
+      tree = subst (λ z. AlikeTrees look z.world.tree (what_happens w (E.Store cpu a Word y)).world.tree) (sym one)
+          (subst (λ z. AlikeTrees look (with_word w.tree h i n) z.world.tree) (sym two)
           (record { nodes = refl; words = words }));
-      cpus = subst (λ z. AlikeCpus own z.world.cpus (what_happens w (E.Store cpu va Word y)).world.cpus) (sym (does x))
-          (subst (λ z. AlikeCpus own w.cpus z.world.cpus) (sym (does y)) (cpus_alike_same own w.cpus));
+      cpus = subst (λ z. AlikeCpus own z.world.cpus (what_happens w (E.Store cpu a Word y)).world.cpus) (sym one)
+          (subst (λ z. AlikeCpus own w.cpus z.world.cpus) (sym two) (cpus_alike_same own w.cpus));
     })
-    (subst (λ z. IsNoWord z.outcome) (sym (does x)) tt)
+    (subst (λ z. IsNoWord z.outcome) (sym one) tt)
   where
-    does : (n : ℕ) → what_happens w (E.Store cpu va Word n) ≡ done (record w { tree = with_word w.tree h i n })
-    does n = ap (λ o. on_running w cpu o (λ r. wrote w cpu r va Word n (reach w.tree r.name va Store Word))) k
-        ∙ ap (wrote w cpu r va Word n) q
+    n : ℕ
+    n = written_over va z x (word_of (w.tree.words h) i)
 
-    word : (j : ℕ) (b : Bool) → (j == i) ≡ b → look h j (cond b x (word_of (w.tree.words h) j))
+    does : (va : ℕ) (z : Size) (x : ℕ) → reach w.tree r.name va Store z ≡ Place h i → what_happens w (E.Store cpu va z x)
+        ≡ done (record w { tree = with_word w.tree h i (written_over va z x (word_of (w.tree.words h) i)) })
+    does va z x q = ap (λ o. on_running w cpu o (λ r. wrote w cpu r va z x (reach w.tree r.name va Store z))) k
+        ∙ ap (wrote w cpu r va z x) q
+
+    one : what_happens w (E.Store cpu va z x) ≡ done (record w { tree = with_word w.tree h i n })
+    one = does va z x q
+
+    two : what_happens w (E.Store cpu a Word y) ≡ done (record w { tree = with_word w.tree h i y })
+    two = does a Word y e
+
+    word : (j : ℕ) (b : Bool) → (j == i) ≡ b → look h j (cond b n (word_of (w.tree.words h) j))
         ≡ look h j (cond b y (word_of (w.tree.words h) j))
     word j false e = refl
     word j true e = rw (eqb-true j i e) l
 
-    words : (m : ℕ) → AlikeWord look m ((with_word w.tree h i x).words m) ((with_word w.tree h i y).words m)
+    words : (m : ℕ) → AlikeWord look m ((with_word w.tree h i n).words m) ((with_word w.tree h i y).words m)
     words m = by (m == h) refl
       where
         by : (b : Bool) → (m == h) ≡ b → AlikeWord look m
-            (cond b (Some (λ j. cond (j == i) x (word_of (w.tree.words h) j))) (w.tree.words m))
+            (cond b (Some (λ j. cond (j == i) n (word_of (w.tree.words h) j))) (w.tree.words m))
             (cond b (Some (λ j. cond (j == i) y (word_of (w.tree.words h) j))) (w.tree.words m))
         by false e = record { there = refl; words = λ j. refl }
         by true e = record { there = refl; words = λ j. rw (eqb-true m h e) (word j (j == i) refl) }

@@ -21,7 +21,8 @@ use Rattle.pip_model.specs.declared.processors.Occupant.{Occupant}
 use Rattle.pip_outside.specs.Exits.{IsConfined, IsExit}
 use Rattle.pip_model.specs.Events.{Event}
 use Rattle.pip_model.specs.Events as E
-use Rattle.pip_model.specs.Happens.{call_named, event, fault_number, fault_vector, what_happens}
+use Rattle.pip_model.specs.Happens.{call_named, event, fault_number, fault_vector, what_happens, written_over}
+use Rattle.pip_model.specs.Tree.{word_of}
 use Rattle.pip_model.specs.Turn.{fetch_acts, turn}
 use Rattle.pip_model.specs.Worlds.{World, done, runs_on}
 use Rattle.pip_model.specs.Switching.{target_node, yield_place, yield_refusals}
@@ -113,8 +114,8 @@ DeedAnswers w cpu (D.StoreByte va x) = ⊥
 DeedAnswers w cpu (D.Trap v x y) = ⊥
 DeedAnswers w cpu (D.Call number args) = ⊥
 
--- no turn of a partition outside reads anything of words but what is seen, nor does a poll where a hostile one runs; nor do its
--- deeds, but for loads that are answered
+-- no turn of a partition outside reads anything of words but what is seen, nor does a poll where a hostile one runs; nor
+-- do its deeds, but for loads that are answered
 pub record LooksAway (own : List ℕ) (look : ℕ → ℕ → ℕ → ℕ) (g : Menu) (w : World) (cpu : ℕ) : Type 0 where
   pub turn : is_hostile w.tree.root.name (name_on w cpu) g.may ≡ false → TurnReadsOutside own look w cpu 0
   pub poll : RunsHostile g w cpu → ReadsOutside own look w (E.Poll cpu)
@@ -213,11 +214,13 @@ YieldsAreOnMenu = (own : List ℕ) (look : ℕ → ℕ → ℕ → ℕ) (g : Men
     ≡ None → Lands look (yield_place w.tree r.name a.x2)
     → HasDeed g w cpu (D.Call n (a.x0 ∷ a.x1 ∷ 256 ∷ 0 ∷ 0 ∷ [])) → IsOnMenu own look g w cpu (E.Call cpu n a)
 
--- a store of a word that is answered, where the menu has a store there of a word that looks the same
+-- a store that is answered, where the menu has a store to that word, by which it looks as after this one
 abbrev pub StoresAreOnMenu : Type 0
-StoresAreOnMenu = (own : List ℕ) (look : ℕ → ℕ → ℕ → ℕ) (g : Menu) (w : World) (cpu va x y : ℕ) (r : Occupant)
-    (h i : ℕ) → runs_on w cpu ≡ Some r → reach w.tree r.name va Store Word ≡ Place h i → look h i x ≡ look h i y
-    → HasDeed g w cpu (D.StoreWord va y) → IsOnMenu own look g w cpu (E.Store cpu va Word x)
+StoresAreOnMenu = (own : List ℕ) (look : ℕ → ℕ → ℕ → ℕ) (g : Menu) (w : World) (cpu va : ℕ) (z : Size) (x a y : ℕ)
+    (r : Occupant) (h i : ℕ) → runs_on w cpu ≡ Some r → reach w.tree r.name va Store z ≡ Place h i
+    → reach w.tree r.name a Store Word ≡ Place h i
+    → look h i (written_over va z x (word_of (w.tree.words h) i)) ≡ look h i y
+    → HasDeed g w cpu (D.StoreWord a y) → IsOnMenu own look g w cpu (E.Store cpu va z x)
 
 -- ---- partitions that are confined
 

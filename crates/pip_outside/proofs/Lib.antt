@@ -11,3 +11,4 @@ pub mod Confined
 pub mod Few
 pub mod Nothing
 pub mod Testing
+pub mod Entries

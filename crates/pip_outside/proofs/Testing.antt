@@ -57,7 +57,7 @@ off false e = refl
 pub not_both : (a : Bool) → a ≡ false → a ≡ true → ⊥
 not_both a e f = cc
 
-all_are : (f : ℕ → Bool) (n i : ℕ) → T.all_from f n i ≡ true → (j : ℕ) → i ≤ j → j < i + n → f j ≡ true
+pub all_are : (f : ℕ → Bool) (n i : ℕ) → T.all_from f n i ≡ true → (j : ℕ) → i ≤ j → j < i + n → f j ≡ true
 all_are f zero i e j l k = absurd (omega (arith, l, k))
 all_are f (suc n) i e j l k =
     let h = both (f i) (T.all_from f n (i + 1)) e in

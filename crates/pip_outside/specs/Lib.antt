@@ -3,3 +3,4 @@ pub mod Unseen
 pub mod Turns
 pub mod Exits
 pub mod Tests
+pub mod Entries

@@ -1,4 +1,5 @@
 use Rattle.pip_outside.proofs.Confined.{masks_are_unseen}
+use Rattle.pip_outside.proofs.Entries.{entries_have_classes}
 use Rattle.pip_outside.proofs.Leaving.{refused_is_unseen}
 use Rattle.pip_outside.proofs.Moved.{outside_depends_on_outside}
 use Rattle.pip_outside.proofs.Nothing.{nothing_left_out}
@@ -14,4 +15,5 @@ returns c = record {
   refused = refused_is_unseen;
   masks = masks_are_unseen;
   nothing = nothing_left_out;
+  entries = entries_have_classes;
 }
