@@ -14,7 +14,7 @@ use Rattle.pip_base.specs.declared.outcome.Status.TheVariants as S
 use Rattle.pip_model.specs.Answers.{Five, first_met, five_of}
 use Rattle.pip_model.specs.Handlers.{can_save, handler, written_block}
 use Rattle.pip_model.specs.Lists.{has}
-use Rattle.pip_model.specs.Reach.{Faulted, Unmapped, reach}
+use Rattle.pip_model.specs.Reach.{Faulted, Place, Unmapped, reach}
 use Rattle.pip_model.specs.Switching.{node_name, reply_unless, target_node, with_zeros, yield, yield_happens}
 use Rattle.pip_model.specs.Switching.{yield_place, yield_refusals, yield_to, yielded_tree}
 use Rattle.pip_model.specs.Tree.{Node, is_place, word_of}
