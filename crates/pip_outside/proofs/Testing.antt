@@ -8,7 +8,9 @@ use Rattle.std.proofs.lemmas.Bool.{cases_eq, ltb-true}
 use Rattle.pip_base.specs.declared.types.Access.TheVariants.{Load, Store, Fetch}
 use Rattle.pip_base.specs.declared.types.Size.{Size}
 use Rattle.pip_base.specs.declared.types.Size.TheVariants.{Word}
-use Rattle.pip_outside.specs.Outside.{AllSeen, EntryMisses, NoneSeen, StoresSeen, seen_but}
+use Rattle.pip_outside.specs.Outside.{EntryMisses, seen_but}
+use Rattle.pip_outside.specs.Sights.{IsSight, Sight, SightsPass}
+use Rattle.pip_outside.specs.Sights as S
 use Rattle.pip_outside.specs.Tests as T
 use Rattle.pip_model.specs.Answers.{Five, child_of}
 use Rattle.pip_model.specs.CountToMap.{pages_needed}
@@ -20,7 +22,7 @@ use Rattle.pip_model.specs.Lists.{In, has}
 use Rattle.pip_model.specs.Prepare.{next_in_chain}
 use Rattle.pip_model.specs.Reach.{Faulted, Place, Reached, reach}
 use Rattle.pip_model.specs.Switching.{target_node}
-use Rattle.pip_model.specs.Tree.{Node, Tree, chain, children, has_table, lists, vpage}
+use Rattle.pip_model.specs.Tree.{Node, Tree, chain, children, has_table, lists, vpage, word_of}
 use Rattle.pip_model.specs.Worlds.{IsSoundWorld, World, runs_on}
 use Rattle.pip_model.specs.declared.call_name.CallName.{CallName}
 use Rattle.pip_model.specs.declared.call_name.CallName.TheVariants.{Masks, OnMemory, Unknown, Yields}
@@ -73,40 +75,20 @@ needed_few x v = go (has_table x v)
     go true = omega arith
     go false = omega arith
 
-module _ (own : List ℕ) (blind : ℕ → ℕ → Bool) where
-  abbrev but : ℕ → ℕ → ℕ → ℕ
-  but = seen_but blind
-
-  all_seen : (g i : ℕ) → blind g i ≡ false → AllSeen but g i
-  all_seen g i e x y k = by (blind g i) e k
-    where
-      by : (b : Bool) → b ≡ false → cond b 0 x ≡ cond b 0 y → x ≡ y
-      by true e k = cc
-      by false e k = k
-
-  none_seen : (g i : ℕ) → blind g i ≡ true → NoneSeen but g i
-  none_seen g i e x y = rw e
-
-  stores_seen : (va : ℕ) (z : Size) (g i : ℕ) → StoresSeen but va z g i
-  stores_seen va z g i n x y k = by (blind g i) k
-    where
-      by : (b : Bool) → cond b 0 x ≡ cond b 0 y → cond b 0 (written_over va z n x) ≡ cond b 0 (written_over va z n y)
-      by true k = refl
-      by false k = ap (written_over va z n) k
-
-  entry_misses : (t : Tree) (p : ℕ) (q : Reached) → T.misses blind q ≡ true → EntryMisses own but t p q
-  entry_misses t p (Place g i) e = λ y k. inl (all_seen g i (off (blind g i) e) _ y k)
+module _ (own : List ℕ) (look : ℕ → ℕ → ℕ → ℕ) (s : Sight) (is : IsSight own look s) where
+  entry_misses : (t : Tree) (p : ℕ) (q : Reached) → S.entry_misses s t p q ≡ true → EntryMisses own look t p q
+  entry_misses t p (Place g i) e = is.entry t p g i e
   entry_misses t p (Faulted f) e = tt
 
-  block_misses : (q : Reached) → T.block_misses blind q ≡ true → BlockMisses but q
-  block_misses (Place g i) e = λ j l k. all_seen g j (off (blind g j) (all_are (λ j. not (blind g j)) 17 i e j l k))
+  block_misses : (q : Reached) → S.block_misses s q ≡ true → BlockMisses look q
+  block_misses (Place g i) e = λ j l k. is.seen g j (all_are (λ j. s.seen g j) 17 i e j l k)
   block_misses (Faulted f) e = tt
 
-  lands : (q : Reached) → T.lands blind q ≡ true → Lands but q
-  lands (Place g i) e = λ j l k. none_seen g j (all_are (λ j. blind g j) 17 i e j l k)
+  lands : (q : Reached) → S.lands s q ≡ true → Lands look q
+  lands (Place g i) e = λ j l k. is.blind g j (all_are (λ j. s.blind g j) 17 i e j l k)
   lands (Faulted f) e = tt
 
-  handler_misses : (t : Tree) (p k : ℕ) → T.handler_misses own blind t p k ≡ true → HandlerMisses own but t p k
+  handler_misses : (t : Tree) (p k : ℕ) → S.handler_misses own s t p k ≡ true → HandlerMisses own look t p k
   handler_misses t p k e =
       let h = both _ _ e in
       record {
@@ -117,8 +99,8 @@ module _ (own : List ℕ) (blind : ℕ → ℕ → Bool) where
         ];
       }
 
-  handlers_miss : (w : World) (k : ℕ) (qs : List Node) → T.handlers_miss own blind w k qs ≡ true
-      → HandlersMiss own but w k qs
+  handlers_miss : (w : World) (k : ℕ) (qs : List Node) → S.handlers_miss own s w k qs ≡ true
+      → HandlersMiss own look w k qs
   handlers_miss w k [] e = tt
   handlers_miss w k (q ∷ qs) e =
       let h = both _ _ e in (
@@ -129,11 +111,11 @@ module _ (own : List ℕ) (blind : ℕ → ℕ → Bool) where
         handlers_miss w k qs h.1,
       )
 
-  above_miss : (w : World) (k : ℕ) (qs : List Node) → T.above_miss own blind w k qs ≡ true → AboveMiss own but w k qs
+  above_miss : (w : World) (k : ℕ) (qs : List Node) → S.above_miss own s w k qs ≡ true → AboveMiss own look w k qs
   above_miss w k [] e = tt
   above_miss w k (q ∷ qs) e = handlers_miss w k qs e
 
-  save_misses : (t : Tree) (p k : ℕ) → T.save_misses own blind t p k ≡ true → SaveMisses own but t p k
+  save_misses : (t : Tree) (p k : ℕ) → S.save_misses own s t p k ≡ true → SaveMisses own look t p k
   save_misses t p k e =
       let h = both _ _ e in
       record {
@@ -144,32 +126,32 @@ module _ (own : List ℕ) (blind : ℕ → ℕ → Bool) where
         ];
       }
 
-  delivery_misses : (w : World) (p k : ℕ) → T.delivery_misses own blind w p k ≡ true → DeliveryMisses own but w p k
+  delivery_misses : (w : World) (p k : ℕ) → S.delivery_misses own s w p k ≡ true → DeliveryMisses own look w p k
   delivery_misses w p k e =
       let h = both _ _ e in
       record { handlers = above_miss w k (chain w.tree p) h.0; save = save_misses w.tree p 63 h.1 }
 
-  load_misses : (w : World) (p : ℕ) (q : Reached) → T.load_misses own blind w p q ≡ true → LoadMisses own but w p q
-  load_misses w p (Place g i) e = all_seen g i (off (blind g i) e)
+  load_misses : (w : World) (p : ℕ) (q : Reached) → S.load_misses own s w p q ≡ true → LoadMisses own look w p q
+  load_misses w p (Place g i) e = is.seen g i e
   load_misses w p (Faulted f) e = delivery_misses w p (fault_vector f) e
 
-  store_misses : (w : World) (p va : ℕ) (z : Size) (q : Reached) → T.store_misses own blind w p q ≡ true
-      → StoreMisses own but w p va z q
-  store_misses w p va z (Place g i) e = stores_seen va z g i
+  store_misses : (w : World) (p va : ℕ) (z : Size) (q : Reached) → S.store_misses own s w p z q ≡ true
+      → StoreMisses own look w p va z q
+  store_misses w p va z (Place g i) e = is.stores va z g i e
   store_misses w p va z (Faulted f) e = delivery_misses w p (fault_vector f) e
 
   -- all pages of a chain but the last
-  chain_misses : (t : Tree) (p k n : ℕ) (seen : List ℕ) (a : ℕ) → n ≤ suc k → T.chain_misses blind t p k a ≡ true
-      → ChainMisses but t p n seen a
+  chain_misses : (t : Tree) (p k n : ℕ) (seen : List ℕ) (a : ℕ) → n ≤ suc k → S.chain_misses s t p k a ≡ true
+      → ChainMisses look t p n seen a
   chain_misses t p k zero seen a l e = tt
   chain_misses t p k (suc zero) seen a l e = tt
   chain_misses t p zero (suc (suc n)) seen a l e = absurd (omega (arith, l))
   chain_misses t p (suc k) (suc (suc n)) seen a l e =
       let h = both _ _ e in
-      (all_seen _ _ (off _ h.0), chain_misses t p k (suc n) (a ∷ seen) (next_in_chain t p a) (omega (arith, l)) h.1)
+      (is.seen _ _ h.0, chain_misses t p k (suc n) (a ∷ seen) (next_in_chain t p a) (omega (arith, l)) h.1)
 
-  memory_misses : (t : Tree) (p : ℕ) (a : Five) (c : MemoryCall) → T.memory_misses blind t p a c ≡ true
-      → MemoryMisses but t p a c
+  memory_misses : (t : Tree) (p : ℕ) (a : Five) (c : MemoryCall) → S.memory_misses s t p a c ≡ true
+      → MemoryMisses look t p a c
   memory_misses t p a CreatePartition e = tt
   memory_misses t p a DeletePartition e = tt
   memory_misses t p a CountToMap e = tt
@@ -180,15 +162,15 @@ module _ (own : List ℕ) (blind : ℕ → ℕ → Bool) where
   memory_misses t p a RemoveVAddr e = tt
   memory_misses t p a MappedInChild e = tt
 
-  target_misses : (t : Tree) (k : ℕ) (o : Option Node) → T.target_misses own blind t k o ≡ true → (x : Node)
+  target_misses : (t : Tree) (k : ℕ) (o : Option Node) → S.target_misses own s t k o ≡ true → (x : Node)
       → o ≡ Some x
-      → HandlerMisses own but t x.name k
+      → HandlerMisses own look t x.name k
   target_misses t k None e x q = cc
   target_misses t k (Some y) e x q = let d : y ≡ x = cc in
-      subst (λ z. HandlerMisses own but t z.name k) d (handler_misses t y.name k e)
+      subst (λ z. HandlerMisses own look t z.name k) d (handler_misses t y.name k e)
 
-  call_misses : (w : World) (p : ℕ) (a : Five) (c : CallName) → T.call_misses own blind w.tree p a c ≡ true
-      → CallMisses own but w p a c
+  call_misses : (w : World) (p : ℕ) (a : Five) (c : CallName) → S.call_misses own s w.tree p a c ≡ true
+      → CallMisses own look w p a c
   call_misses w p a (OnMemory c) e = memory_misses w.tree p a c e
   call_misses w p a Yields e =
       let h = both _ _ e in
@@ -202,34 +184,34 @@ module _ (own : List ℕ) (blind : ℕ → ℕ → Bool) where
   call_misses w p a (Masks b) e = tt
   call_misses w p a Unknown e = tt
 
-  lines_miss : (t : Tree) (js : List ℕ) → T.lines_miss own blind t js ≡ true → LinesMiss own but t js
+  lines_miss : (t : Tree) (js : List ℕ) → S.lines_miss own s t js ≡ true → LinesMiss own look t js
   lines_miss t [] e = tt
   lines_miss t (j ∷ js) e =
       let h = both _ _ e in (handler_misses t t.root.name (32 + j) h.0, lines_miss t js h.1)
 
-  runner_saved : (t : Tree) (o : Option Occupant) → T.if_one_runs o (λ r. T.save_misses own blind t r.name 63) ≡ true
-      → RunnerSaved own but t o
+  runner_saved : (t : Tree) (o : Option Occupant) → S.if_one_runs o (λ r. S.save_misses own s t r.name 63) ≡ true
+      → RunnerSaved own look t o
   runner_saved t None e = tt
   runner_saved t (Some r) e = save_misses t r.name 63 e
 
   by_runner : (o : Option Occupant) (P : Occupant → Type 0) (f : Occupant → Bool) → ((r : Occupant) → f r ≡ true → P r)
-      → T.if_one_runs o f ≡ true → ByRunner o P
+      → S.if_one_runs o f ≡ true → ByRunner o P
   by_runner None P f g e = tt
   by_runner (Some r) P f g e = g r e
 
-  pub reads : (w : World) (e : Event) → T.reads_outside own blind w e ≡ true → ReadsOutside own but w e
+  pub reads : (w : World) (e : Event) → S.reads_outside own s w e ≡ true → ReadsOutside own look w e
   reads w (E.Load cpu va z) e = by_runner (runs_on w cpu) _
-      (λ r. T.load_misses own blind w r.name (reach w.tree r.name va Load z)) (λ r. load_misses w r.name _) e
+      (λ r. S.load_misses own s w r.name (reach w.tree r.name va Load z)) (λ r. load_misses w r.name _) e
   reads w (E.Store cpu va z x) e = by_runner (runs_on w cpu) _
-      (λ r. T.store_misses own blind w r.name (reach w.tree r.name va Store z)) (λ r. store_misses w r.name va z _) e
+      (λ r. S.store_misses own s w r.name z (reach w.tree r.name va Store z)) (λ r. store_misses w r.name va z _) e
   reads w (E.Fetch cpu) e = by_runner (runs_on w cpu) _
-      (λ r. not (has own r.name) && T.load_misses own blind w r.name (reach w.tree r.name r.ctx.pc Fetch Word))
+      (λ r. not (has own r.name) && S.load_misses own s w r.name (reach w.tree r.name r.ctx.pc Fetch Word))
       (λ r f. let h = both _ _ f in
       ((λ i. not_both _ (off _ h.0) (in_has r.name own i)), load_misses w r.name _ h.1)) e
-  reads w (E.Trap cpu k a b) e = by_runner (runs_on w cpu) _ (λ r. T.delivery_misses own blind w r.name k)
+  reads w (E.Trap cpu k a b) e = by_runner (runs_on w cpu) _ (λ r. S.delivery_misses own s w r.name k)
       (λ r. delivery_misses w r.name k) e
   reads w (E.Call cpu number a) e = by_runner (runs_on w cpu) _
-      (λ r. T.call_misses own blind w.tree r.name a (call_named number)) (λ r. call_misses w r.name a (call_named
+      (λ r. S.call_misses own s w.tree r.name a (call_named number)) (λ r. call_misses w r.name a (call_named
       number)) e
   reads w (E.Raise j) e = tt
   reads w (E.Poll cpu) e =
@@ -237,10 +219,30 @@ module _ (own : List ℕ) (blind : ℕ → ℕ → Bool) where
       record { lines = lines_miss w.tree w.tree.root.pending h.0; save = runner_saved w.tree (runs_on w cpu) h.1 }
   reads w (E.SetContext cpu c) e = tt
 
-  pub all_read : (es : List Event) (w : World) → T.all_read_outside own blind w es ≡ true → AllReadOutside own but
+  pub all_read : (es : List Event) (w : World) → S.all_read_outside own s w es ≡ true → AllReadOutside own look
       w es
   all_read [] w e = tt
   all_read (x ∷ es) w e = let h = both _ _ e in (reads w x h.0, all_read es (event w x).world h.1)
+
+-- the words that are left out
+pub is_but : (own : List ℕ) (blind : ℕ → ℕ → Bool) → IsSight own (seen_but blind) (T.but blind)
+is_but own blind = record {
+  seen = λ g i e x y k. all (blind g i) x y e k;
+  blind = λ g i e x y. rw e;
+  entry = λ t p g i e y k. inl (all (blind g i) (word_of (t.words g) i) y e k);
+  stores = λ va z g i e n x y k. same (blind g i) x y (written_over va z n) k;
+}
+  where
+    all : (b : Bool) (x y : ℕ) → not b ≡ true → cond b 0 x ≡ cond b 0 y → x ≡ y
+    all true x y e k = cc
+    all false x y e k = k
+
+    same : (b : Bool) (x y : ℕ) (f : ℕ → ℕ) → cond b 0 x ≡ cond b 0 y → cond b 0 (f x) ≡ cond b 0 (f y)
+    same true x y f k = refl
+    same false x y f k = ap f k
+
+pub sights_pass : SightsPass
+sights_pass own look s w e is k = reads own look s is w e k
 
 none_found : {A : Type 0} (f : A → Bool) (xs : List A) → nat_lt (length xs) 1 ≡ true → find f xs ≡ None
 none_found f [] e = refl

@@ -1,5 +1,5 @@
 -- A test of an event, by which a search can say that nothing outside reads what isn't seen of words.
-use Rattle.std.specs.Prelude.{ℕ, zero, suc, ◌+◌, ◌==◌, ◌&&◌, ◌||◌, nat_lt, not, Bool, true, List, [], ◌∷◌, length}
+use Rattle.std.specs.Prelude.{◌≡◌, ℕ, zero, suc, ◌+◌, ◌==◌, ◌&&◌, ◌||◌, nat_lt, not, Bool, true, List, [], ◌∷◌, length}
 use Rattle.std.specs.Prelude.{Option, Some, None}
 use Rattle.pip_base.specs.declared.types.Access.TheVariants.{Load, Store, Fetch}
 use Rattle.pip_base.specs.declared.types.Size.{Size}
@@ -21,7 +21,7 @@ use Rattle.pip_model.specs.declared.call_name.MemoryCall.{MemoryCall}
 use Rattle.pip_model.specs.declared.call_name.MemoryCall.TheVariants.{Prepare}
 use Rattle.pip_model.specs.declared.processors.Occupant.{Occupant}
 use Rattle.pip_outside.specs.Exits.{writable_rows}
-use Rattle.pip_outside.specs.Outside.{entry_place, block_place}
+use Rattle.pip_outside.specs.Outside.{AllSeen, EntryMisses, NoneSeen, ReadsOutside, StoresSeen, block_place, entry_place}
 
 -- ---- words
 
@@ -154,3 +154,17 @@ all_read_outside own s w [] = true
 all_read_outside own s w (e ∷ es) =
     reads_outside own s w e && all_read_outside own s (event w e).world es
 
+
+-- ---- what the tests say
+
+-- these tests say so of what is seen of words
+pub record IsSight (own : List ℕ) (look : ℕ → ℕ → ℕ → ℕ) (s : Sight) : Type 0 where
+  pub seen : (g i : ℕ) → s.seen g i ≡ true → AllSeen look g i
+  pub blind : (g i : ℕ) → s.blind g i ≡ true → NoneSeen look g i
+  pub entry : (t : Tree) (p g i : ℕ) → s.entry t p g i ≡ true → EntryMisses own look t p (Place g i)
+  pub stores : (va : ℕ) (z : Size) (g i : ℕ) → s.stores z g i ≡ true → StoresSeen look va z g i
+
+-- an event that passes reads nothing else
+abbrev pub SightsPass : Type 0
+SightsPass = (own : List ℕ) (look : ℕ → ℕ → ℕ → ℕ) (s : Sight) (w : World) (e : Event) → IsSight own look s
+    → reads_outside own s w e ≡ true → ReadsOutside own look w e

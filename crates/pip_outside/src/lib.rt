@@ -2,11 +2,12 @@
 //! each is a law, which its contract says.
 #![tactic(auto)]
 
-ghost use Rattle.pip_outside.specs.Entries.{EntriesHaveClasses};
+ghost use Rattle.pip_outside.specs.Entries.{ClassesAreSights, EntriesHaveClasses};
 ghost use Rattle.pip_outside.specs.Exits.{ConfinedAlike, ConfinedStaysOrExits, FewPagesCreateNone, SoundConfines};
 ghost use Rattle.pip_outside.specs.Exits.{FetchFaultsAreTraps, LoadFaultsAreTraps, MasksAreUnseen, RefusedIsUnseen};
 ghost use Rattle.pip_outside.specs.Exits.{StoreFaultsAreTraps, UntakenWordsDoNotMatter};
 ghost use Rattle.pip_outside.specs.Outside.{NothingLeftOut, OutsideDependsOnOutside};
+ghost use Rattle.pip_outside.specs.Sights.{SightsPass};
 ghost use Rattle.pip_outside.specs.Turns.{TurnsDependOnOutside};
 ghost use Rattle.pip_outside.specs.Unseen.{UnseenIsUnseen};
 
@@ -20,6 +21,8 @@ pub fn law_outside()
     ensures masks { MasksAreUnseen }
     ensures nothing { NothingLeftOut }
     ensures entries { EntriesHaveClasses }
+    ensures tested { SightsPass }
+    ensures classes { ClassesAreSights }
 {}
 
 /// Which events leave a partition that is confined, and which of them do the same.
