@@ -9,13 +9,15 @@ use Rattle.pip_model.specs.Run.{image_world, steps}
 use Rattle.pip_model.specs.Worlds.{World}
 use Rattle.pip_outside.specs.Outside.{Alike, seen_but}
 use Rattle.pip_every.specs.Menus.{menu_model}
+use Rattle.pip_hostile.specs.Passing.{HasPassed}
 use Rattle.pip_hostile.specs.Tests.{IsPassed}
-use Rattle.pip_hostile.proofs.Testing.{tests_pass}
+use Rattle.pip_hostile.proofs.Testing.{states_pass, tests_pass}
 use Rattle.pip_search.specs.Reached.{AreChoices, IsCovered}
 use Rattle.pip_search.specs.Systems.{after_choices}
 use Rattle.pip_search_commands.specs.SearchDues.{begun_moment, begun_world, image_menu, most_choices}
 use Rattle.pip_search_commands.specs.declared.start.Start.{Start}
-use Rattle.pip_any.specs.AnyProgram.{AnyProgramFromStart, AnyProgramIsNamed, TestedNamesAnyProgram}
+use Rattle.pip_any.specs.AnyProgram.{AnyProgramFromStart, AnyProgramIsNamed, PassedNamesAnyProgram}
+use Rattle.pip_any.specs.AnyProgram.{TestedNamesAnyProgram}
 
 pub any_program_is_named : AnyProgramIsNamed
 any_program_is_named own look menu states from depth most start i j v s closed cpus away fits alike plans seed n are
@@ -59,4 +61,20 @@ tested_names_any_program own blind menu states from depth most start i j v s clo
         let k = s.told.counted.all cs can (subst (λ d. IsCovered d (length cs)) (sym closed) tt) in
         tests_pass own blind (image_menu i from menu.may)
         (after_choices (menu_model s.first (image_menu i from menu.may)) (begun_moment i start) cs).world c
+        k.stands.stands.sound (pass cs c can)
+
+pub passed_names_any_program : PassedNamesAnyProgram
+passed_names_any_program own look tests menu states from depth most start i j v s is closed cpus pass a plans seed n are
+    exits =
+    any_program_is_named own look menu states from depth most start i j v s closed cpus
+    (λ cs c can lt. (passed cs c can).away) (λ cs c p can named h. (passed cs c can).confined p named h)
+    a plans seed n are exits
+  where
+    passed : (cs : List ℕ) (c : ℕ) → AreChoices (menu_model s.first (image_menu i from menu.may)) cs
+        → HasPassed own look (image_menu i from menu.may)
+        (after_choices (menu_model s.first (image_menu i from menu.may)) (begun_moment i start) cs).world c
+    passed cs c can =
+        let k = s.told.counted.all cs can (subst (λ d. IsCovered d (length cs)) (sym closed) tt) in
+        states_pass own look tests (image_menu i from menu.may)
+        (after_choices (menu_model s.first (image_menu i from menu.may)) (begun_moment i start) cs).world c is
         k.stands.stands.sound (pass cs c can)

@@ -1,16 +1,18 @@
 -- What a search of an image with a menu says of every program of its hostile partitions.
-use Rattle.std.specs.Prelude.{◌≡◌, ℕ, Bool, true, false, List, Option}
+use Rattle.std.specs.Prelude.{◌≡◌, ℕ, Bool, true, List, Option}
 use Rattle.pip_any.specs.Programs.{AreNamedTurns, EachTurn, HostileExits, SearchConfines, SearchLooksAway}
 use Rattle.pip_base.specs.Memory.{Memory}
 use Rattle.pip_base.specs.declared.types.Plan.{Plan}
 use Rattle.pip_every.specs.Menus.{Menu, menu_model}
 use Rattle.pip_every.specs.Moments.{Moment}
+use Rattle.pip_hostile.specs.Passing.{passes}
 use Rattle.pip_hostile.specs.Tests.{looks_away}
 use Rattle.pip_command_contracts.specs.EndsBy.{Response}
 use Rattle.pip_command_contracts.specs.Planned.{lines_planned}
 use Rattle.pip_model.specs.Acts.{text_of}
 use Rattle.pip_model.specs.Images.{Image, image_word}
 use Rattle.pip_outside.specs.Outside.{Alike, seen_but}
+use Rattle.pip_outside.specs.Sights.{IsSight, Sight}
 use Rattle.pip_search.specs.Reached.{AreChoices}
 use Rattle.pip_search.specs.Systems.{after_choices}
 use Rattle.pip_search.specs.declared.searching.Extent.TheVariants.{Closed}
@@ -65,4 +67,22 @@ TestedNamesAnyProgram = (own : List ℕ) (blind : ℕ → ℕ → Bool) (menu : 
     → EachTurn (HostileExits own (seen_but blind) (image_menu i from menu.may)) (begun_world j start)
     plans seed j.cpus n start.count
     → AreNamedTurns s.found own (seen_but blind) (begun_world j start) plans seed j.cpus n start.count
+    (text_of (steps_from j start plans seed n))
+
+-- a state of a search passes the tests of what is seen of words, on each processor
+abbrev pub SearchIsPassed : List ℕ → Sight → Memory → Menu → Moment → Type 0
+SearchIsPassed own tests first g m = (cs : List ℕ) (cpu : ℕ) → AreChoices (menu_model first g) cs
+    → passes own tests g (after_choices (menu_model first g) m cs).world cpu ≡ true
+
+-- so it is where each state of the search passes these
+abbrev pub PassedNamesAnyProgram : Type 0
+PassedNamesAnyProgram = (own : List ℕ) (look : ℕ → ℕ → ℕ → ℕ) (tests : Sight) (menu : MenuSaid)
+    (states from depth : ℕ) (most : Option ℕ) (start : Start) (i j : Image) (v : Response)
+    (s : IsSearchedAgainst menu states from most start i v) → IsSight own look tests → s.verdict ≡ Closed depth
+    → j.cpus ≡ i.cpus → SearchIsPassed own tests s.first (image_menu i from menu.may) (begun_moment i start)
+    → Alike own look (begun_world j start) (begun_world i start) → (plans : List Plan) (seed n : ℕ)
+    → ArePlansFrom (lines_planned i.plans) start.count from plans
+    → EachTurn (HostileExits own look (image_menu i from menu.may)) (begun_world j start)
+    plans seed j.cpus n start.count
+    → AreNamedTurns s.found own look (begun_world j start) plans seed j.cpus n start.count
     (text_of (steps_from j start plans seed n))

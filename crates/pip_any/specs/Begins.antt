@@ -1,5 +1,5 @@
 -- Where runs of two images begin that differ in some pages alone, and steps that read none of them.
-use Rattle.std.specs.Prelude.{◌≡◌, ℕ, zero, suc, ◌+◌, Bool, false, List}
+use Rattle.std.specs.Prelude.{◌≡◌, ℕ, zero, suc, ◌+◌, List}
 use Rattle.pip_base.specs.declared.types.Plan.{Plan}
 use Rattle.pip_model.specs.Acts.{after_acts}
 use Rattle.pip_model.specs.Images.{Image, image_word}

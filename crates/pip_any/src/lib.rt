@@ -2,7 +2,8 @@
 //! here compute nothing: each is a law, which its contract says.
 #![tactic(auto)]
 
-ghost use Rattle.pip_any.specs.AnyProgram.{AnyProgramFromStart, AnyProgramIsNamed, TestedNamesAnyProgram};
+ghost use Rattle.pip_any.specs.AnyProgram.{AnyProgramFromStart, AnyProgramIsNamed, PassedNamesAnyProgram};
+ghost use Rattle.pip_any.specs.AnyProgram.{TestedNamesAnyProgram};
 ghost use Rattle.pip_any.specs.Begins.{ImagesLookAlike, StepsDependOnOutside};
 ghost use Rattle.pip_any.specs.Programs.{ConfinedProgramsAreNamed, ProgramsAreNamed};
 
@@ -21,4 +22,5 @@ pub fn law_any_program()
     ensures named { AnyProgramIsNamed }
     ensures from_start { AnyProgramFromStart }
     ensures tested { TestedNamesAnyProgram }
+    ensures passed { PassedNamesAnyProgram }
 {}

@@ -8,6 +8,7 @@ ghost use Rattle.pip_hostile.specs.Hostile.{CallsAreOnMenu, ConfinedKeepsToMenu,
 ghost use Rattle.pip_hostile.specs.Hostile.{LoadFaultsAreOnMenu, MasksReadNone, StoreFaultsAreOnMenu, StoresAreOnMenu};
 ghost use Rattle.pip_hostile.specs.Hostile.{TrapsAreOnMenu, TurnsHaveChoices, UntakenAreOnMenu, YieldsAreOnMenu};
 ghost use Rattle.pip_hostile.specs.Hostile.{YieldsReadThree};
+ghost use Rattle.pip_hostile.specs.Passing.{StatesPass};
 ghost use Rattle.pip_hostile.specs.Tests.{TestsPass};
 
 pub use away::looks_away;
@@ -18,6 +19,7 @@ pub fn law_hostile()
     ensures turns { TurnsHaveChoices }
     ensures confined { ConfinedKeepsToMenu }
     ensures tested { TestsPass }
+    ensures passed { StatesPass }
 {}
 
 /// Which events are on a menu.

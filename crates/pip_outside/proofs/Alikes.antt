@@ -1,5 +1,5 @@
 -- Worlds that look alike: the relation, both ways and one after another.
-use Rattle.std.proofs.Common.{ℕ, Bool, List, [], ◌∷◌, refl, sym, ap, ◌∙◌, subst, Option, Some, None}
+use Rattle.std.proofs.Common.{ℕ, List, [], ◌∷◌, refl, sym, ap, ◌∙◌, subst, Option, Some, None}
 use Rattle.pip_model.specs.Lists.{In}
 use Rattle.pip_model.specs.Tree.{Tree}
 use Rattle.pip_model.specs.Worlds.{World}

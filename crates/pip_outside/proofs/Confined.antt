@@ -1,9 +1,9 @@
 -- A partition that is confined: what it does stays inside, or is one of a few exits.
 use Rattle.std.proofs.Common.{◌≡◌, ◌≢◌, ℕ, zero, suc, ◌<◌, ◌≤◌, arith, ◌==◌, ◌&&◌, ◌⊎◌, inl, inr, Bool, true, false}
 use Rattle.std.proofs.Common.{cond, List, [], ◌∷◌, map, not}
-use Rattle.std.proofs.Common.{refl, sym, ap, ◌∙◌, ◌||◌, subst, eqb-true, Option, Some, None}
+use Rattle.std.proofs.Common.{refl, sym, ap, ◌∙◌, ◌||◌, subst, Option, Some, None}
 use Rattle.std.specs.Prelude.{◌+◌, ◌-◌, is_none, is_some, nat_le, nat_lt, option_map}
-use Rattle.std.proofs.lemmas.Bool.{cases_eq, leb-true, ltb-true, ne_eqb}
+use Rattle.std.proofs.lemmas.Bool.{cases_eq, ne_eqb}
 use Rattle.pip_base.specs.declared.outcome.Status.{Status}
 use Rattle.pip_base.specs.declared.outcome.Status.TheVariants as S
 use Rattle.pip_base.specs.declared.types.Access.{Access}
@@ -42,7 +42,7 @@ use Rattle.pip_model.specs.declared.processors.Occupant.{Occupant}
 use Rattle.pip_outside.specs.Exits.{ConfinedAlike, ConfinedStaysOrExits, Faults, GoesAway, IsConfined, IsExit, IsMadeOn}
 use Rattle.pip_outside.specs.Exits.{IsSeen, MasksAreUnseen}
 use Rattle.pip_outside.specs.Exits.{SaveIsSeen, SoundConfines}
-use Rattle.pip_outside.specs.Outside.{AlikeTrees, AlikeWord, Lands, bare, unmasked}
+use Rattle.pip_outside.specs.Outside.{AlikeTrees, AlikeWord, bare, unmasked}
 use Rattle.pip_outside.specs.Unseen.{Answers, ByOneOf, GoesTo, IsUnseen, StaysThere}
 use Rattle.pip_model.proofs.Events.Soundness.{reached_words}
 use Rattle.pip_outside.proofs.Alikes.{tree_alike_same}
@@ -195,8 +195,11 @@ module _ (own : List ℕ) (look : ℕ → ℕ → ℕ → ℕ) (w : World) (cpu 
           subst (λ h. AlikeTrees look h.world.tree w.tree) (sym f) m.1,
         )
         | inr (inl m) ↦ inr (inl (subst (λ h. GoesAway r.name h.outcome) (sym f) m))
-        | inr (inr m) ↦ inr (inr (m.0, subst (λ o. SaveIsSeen look w.tree (with_zeros (ctx_of o))
-            (yield_place w.tree r.name a.x2)) (sym k) m.1))
+        | inr (inr m) ↦ inr (inr (
+          m.0,
+          subst (λ o. SaveIsSeen look w.tree (with_zeros (ctx_of o))
+              (yield_place w.tree r.name a.x2)) (sym k) m.1,
+        ))
       ]
     where
       -- all words of a block look as they did, or one doesn't
@@ -264,9 +267,9 @@ module _ (own : List ℕ) (look : ℕ → ℕ → ℕ → ℕ) (w : World) (cpu 
       go (Faulted f) e = inr tt
       go (Place g j) e = elim (cases_eq (look g j (written_over va z n (word_of (w.tree.words g) j)))
           (look g j (word_of (w.tree.words g) j))) [
-        | inl s ↦ inl (s, c.there va g j z e)
-        | inr d ↦ inr d
-      ]
+            | inl s ↦ inl (s, c.there va g j z e)
+            | inr d ↦ inr d
+          ]
 
   does : (e : Event) → IsMadeOn cpu e → IsUnseen own look w e ⊎ IsExit look w r.name e
   does (E.Load d va z) m = elim (at_reach va Load z) [

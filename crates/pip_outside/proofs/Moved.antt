@@ -17,7 +17,7 @@ use Rattle.pip_model.specs.Cache.{Places}
 use Rattle.pip_model.specs.Deliver.{deliver, deliver_to, nearest_above, nearest_among, nearest_taker, taker_or}
 use Rattle.pip_model.specs.Events as E
 use Rattle.pip_model.specs.Events.{Event}
-use Rattle.pip_model.specs.Handlers.{can_save, handler, is_reached, save, save_place, saved_to}
+use Rattle.pip_model.specs.Handlers.{can_save, handler, save, save_place, saved_to}
 use Rattle.pip_model.specs.Happens.{access_number, what_happens, answer, call, call_named, fault_number, fault_vector}
 use Rattle.pip_model.specs.Happens.{load_happens, on_running, read_of, written_over, wrote}
 use Rattle.pip_model.specs.Lists.{In, has}

@@ -6,7 +6,7 @@ use Rattle.std.proofs.lemmas.Bool.{leb-true, ltb-true}
 use Rattle.pip_base.specs.declared.types.Access.TheVariants.{Load}
 use Rattle.pip_base.specs.declared.types.Ctx.{Ctx}
 use Rattle.pip_base.specs.declared.types.Size.TheVariants.{Word}
-use Rattle.pip_model.specs.Handlers.{block, block_at, context_in, context_reached, context_word, handler, handler_at}
+use Rattle.pip_model.specs.Handlers.{block_at, context_in, context_reached, context_word, handler, handler_at}
 use Rattle.pip_model.specs.Handlers.{is_reached, save_place, saved_to, store_at, words_from, written_block}
 use Rattle.pip_model.specs.Lists.{In, has}
 use Rattle.pip_model.specs.Reach.{Faulted, Place, Reached, reach, word_reached}

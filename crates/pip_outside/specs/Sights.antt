@@ -1,5 +1,5 @@
 -- A test of an event, by which a search can say that nothing outside reads what isn't seen of words.
-use Rattle.std.specs.Prelude.{◌≡◌, ℕ, zero, suc, ◌+◌, ◌==◌, ◌&&◌, ◌||◌, nat_lt, not, Bool, true, List, [], ◌∷◌, length}
+use Rattle.std.specs.Prelude.{◌≡◌, ℕ, zero, suc, ◌+◌, ◌&&◌, ◌||◌, nat_lt, not, Bool, true, List, [], ◌∷◌}
 use Rattle.std.specs.Prelude.{Option, Some, None}
 use Rattle.pip_base.specs.declared.types.Access.TheVariants.{Load, Store, Fetch}
 use Rattle.pip_base.specs.declared.types.Size.{Size}
@@ -13,14 +13,13 @@ use Rattle.pip_model.specs.Lists.{has}
 use Rattle.pip_model.specs.Prepare.{next_in_chain}
 use Rattle.pip_model.specs.Reach.{Faulted, Place, Reached, reach}
 use Rattle.pip_model.specs.Switching.{target_node}
-use Rattle.pip_model.specs.Tree.{Node, Tree, chain, children}
+use Rattle.pip_model.specs.Tree.{Node, Tree, chain}
 use Rattle.pip_model.specs.Worlds.{World, running, runs_on}
 use Rattle.pip_model.specs.declared.call_name.CallName.{CallName}
 use Rattle.pip_model.specs.declared.call_name.CallName.TheVariants.{Masks, OnMemory, Unknown, Yields}
 use Rattle.pip_model.specs.declared.call_name.MemoryCall.{MemoryCall}
 use Rattle.pip_model.specs.declared.call_name.MemoryCall.TheVariants.{Prepare}
 use Rattle.pip_model.specs.declared.processors.Occupant.{Occupant}
-use Rattle.pip_outside.specs.Exits.{writable_rows}
 use Rattle.pip_outside.specs.Outside.{AllSeen, EntryMisses, NoneSeen, ReadsOutside, StoresSeen, block_place, entry_place}
 
 -- ---- words
@@ -153,7 +152,6 @@ abbrev pub all_read_outside : List ℕ → Sight → World → List Event → Bo
 all_read_outside own s w [] = true
 all_read_outside own s w (e ∷ es) =
     reads_outside own s w e && all_read_outside own s (event w e).world es
-
 
 -- ---- what the tests say
 

@@ -1,5 +1,5 @@
 -- A turn of a processor on which a partition outside runs.
-use Rattle.std.specs.Prelude.{◌≡◌, ℕ, Bool, List, [], ◌∷◌}
+use Rattle.std.specs.Prelude.{◌≡◌, ℕ, List, [], ◌∷◌}
 use Rattle.pip_model.specs.Acts.{after_acts, events_made}
 use Rattle.pip_model.specs.Events.{Event}
 use Rattle.pip_model.specs.Happens.{event}

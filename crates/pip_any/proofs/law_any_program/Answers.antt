@@ -1,5 +1,5 @@
 use Rattle.pip_any.proofs.Searched.{any_program_from_start, any_program_is_named}
-use Rattle.pip_any.proofs.Searched.{tested_names_any_program}
+use Rattle.pip_any.proofs.Searched.{passed_names_any_program, tested_names_any_program}
 use Rattle.pip_any.proofs.law_any_program.Goals as goal
 
 pub returns : goal.returns
@@ -7,4 +7,5 @@ returns c = record {
   named = any_program_is_named;
   from_start = any_program_from_start;
   tested = tested_names_any_program;
+  passed = passed_names_any_program;
 }
