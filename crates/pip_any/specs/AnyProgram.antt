@@ -21,9 +21,9 @@ use Rattle.pip_search_commands.specs.RunLaw.{ArePlansFrom, steps_from}
 use Rattle.pip_search_commands.specs.SearchDues.{IsSearchedAgainst, begun_moment, begun_world, image_menu}
 use Rattle.pip_search_commands.specs.declared.start.Start.{Start}
 
--- where the search closed, at each of its moments looks away from what isn't seen of words, and finds the hostile partitions
--- confined: it names what each turn shows of each run of another image that begins alike, by any seed and plans, if the
--- exits of hostile partitions are on the menu; but for turns that stay inside these partitions
+-- where the search closed, at each of its moments looks away from what isn't seen of words, and finds the hostile
+-- partitions confined: it names what each turn shows of each run of another image that begins alike, by any seed and
+-- plans, if the exits of hostile partitions are on the menu; but for turns that stay inside these partitions
 abbrev pub AnyProgramIsNamed : Type 0
 AnyProgramIsNamed = (own : List ℕ) (look : ℕ → ℕ → ℕ → ℕ) (menu : MenuSaid) (states from depth : ℕ) (most : Option ℕ)
     (start : Start) (i j : Image) (v : Response) (s : IsSearchedAgainst menu states from most start i v)

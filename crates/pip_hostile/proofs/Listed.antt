@@ -1,5 +1,6 @@
 -- Which events are on a menu.
-use Rattle.std.proofs.Common.{◌≡◌, ℕ, ◌+◌, ◌*◌, ◌==◌, ◌&&◌, ◌||◌, not, Bool, true, false, cond, eqb-true, List, [], ◌∷◌, refl, sym, ap}
+use Rattle.std.proofs.Common.{◌≡◌, ℕ, ◌+◌, ◌*◌, ◌==◌, ◌&&◌, ◌||◌, not, Bool, true, false, cond, eqb-true, List, [], ◌∷◌}
+use Rattle.std.proofs.Common.{refl, sym, ap}
 use Rattle.std.proofs.Common.{◌∙◌, subst, Option, Some, None}
 use Rattle.std.specs.Prelude.{is_none, nat_le, nat_lt, option_map}
 use Rattle.pip_base.specs.declared.outcome.Outcome.TheVariants as O
@@ -35,7 +36,8 @@ use Rattle.pip_model.specs.declared.processors.Taker.{Taker}
 use Rattle.pip_outside.proofs.Leaving.{fetch_faults_are_traps, load_faults_are_traps, store_faults_are_traps}
 use Rattle.pip_outside.proofs.Leaving.{untaken_words_do_not_matter}
 use Rattle.pip_hostile.specs.Hostile.{CallsAreOnMenu, FetchFaultsAreOnMenu, HasDeed, IsNoWord, IsOnMenu}
-use Rattle.pip_hostile.specs.Hostile.{LoadFaultsAreOnMenu, MasksReadNone, StandsForEvent, StoreFaultsAreOnMenu, StoresAreOnMenu}
+use Rattle.pip_hostile.specs.Hostile.{LoadFaultsAreOnMenu, MasksReadNone, StandsForEvent, StoreFaultsAreOnMenu}
+use Rattle.pip_hostile.specs.Hostile.{StoresAreOnMenu}
 use Rattle.pip_hostile.specs.Hostile.{TrapsAreOnMenu, UntakenAreOnMenu, YieldsAreOnMenu, YieldsReadThree}
 
 -- what is delivered gives no word
@@ -163,7 +165,8 @@ stores_are_on_menu own look g w cpu va z x a y r h i k q e l d =
     n : ℕ
     n = written_over va z x (word_of (w.tree.words h) i)
 
-    does : (va : ℕ) (z : Size) (x : ℕ) → reach w.tree r.name va Store z ≡ Place h i → what_happens w (E.Store cpu va z x)
+    does : (va : ℕ) (z : Size) (x : ℕ) → reach w.tree r.name va Store z
+        ≡ Place h i → what_happens w (E.Store cpu va z x)
         ≡ done (record w { tree = with_word w.tree h i (written_over va z x (word_of (w.tree.words h) i)) })
     does va z x q = ap (λ o. on_running w cpu o (λ r. wrote w cpu r va z x (reach w.tree r.name va Store z))) k
         ∙ ap (wrote w cpu r va z x) q

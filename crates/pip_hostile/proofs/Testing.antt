@@ -38,7 +38,7 @@ module _ (own : List ℕ) (look : ℕ → ℕ → ℕ → ℕ) (s : Sight) (is :
     answers (D.Load va z) e r k = (
       r,
       k,
-      by (reach w.tree r.name va Load z) (subst (λ o. S.if_one_runs o (λ r. is_reached (reach w.tree r.name va Load z))
+      by (reach w.tree r.name va Load z) (subst (λ o. S.if_runs o (λ r. is_reached (reach w.tree r.name va Load z))
           ≡ true) k e),
     )
       where
@@ -72,9 +72,9 @@ module _ (own : List ℕ) (look : ℕ → ℕ → ℕ → ℕ) (s : Sight) (is :
   abbrev hostile : Bool
   hostile = is_hostile w.tree.root.name (name_on w cpu) g.may
 
-  hostile_passes : hostile ≡ true → (S.reads_outside own s w (E.Poll cpu)
+  hostile_passes : hostile ≡ true → (S.event_passes own s w (E.Poll cpu)
       && ((not (H.is_vain (event w (E.Poll cpu)).outcome) || P.deeds_pass own s w cpu g.may)
-      && S.if_one_runs (runs_on w cpu) (T.is_confined own w.tree))) ≡ true → P.HasPassed own look g w cpu
+      && S.if_runs (runs_on w cpu) (T.is_confined own w.tree))) ≡ true → P.HasPassed own look g w cpu
   hostile_passes q e = by (runs_on w cpu) refl
     where
       by : (o : Option Occupant) → runs_on w cpu ≡ o → P.HasPassed own look g w cpu
@@ -83,7 +83,7 @@ module _ (own : List ℕ) (look : ℕ → ℕ → ℕ → ℕ) (s : Sight) (is :
       by (Some r) k =
           let a = both _ _ e in
           let b = both _ _ a.1 in
-          let c = confined own w cpu r sound k (subst (λ o. S.if_one_runs o (T.is_confined own w.tree) ≡ true) k b.1) in
+          let c = confined own w cpu r sound k (subst (λ o. S.if_runs o (T.is_confined own w.tree) ≡ true) k b.1) in
           record {
             away = record {
               turn = λ f. absurd (not_both _ f q);
@@ -99,7 +99,7 @@ module _ (own : List ℕ) (look : ℕ → ℕ → ℕ → ℕ) (s : Sight) (is :
                 (subst (λ n. In n own) d c.0, subst (IsConfined w.tree) d c.1);
           }
 
-  outside_passes : hostile ≡ false → S.all_read_outside own s w (events_made (turn w cpu 0)) ≡ true
+  outside_passes : hostile ≡ false → S.events_pass own s w (events_made (turn w cpu 0)) ≡ true
       → P.HasPassed own look g w cpu
   outside_passes q e = record {
     away = record {
@@ -114,7 +114,7 @@ pub states_pass : P.StatesPass
 states_pass own look s g w cpu is sound e = by (hostile own look s is g w cpu sound) refl e
   where
     by : (b : Bool) → hostile own look s is g w cpu sound ≡ b
-        → cond b (P.hostile_passes own s g.may w cpu) (S.all_read_outside own s w (events_made (turn w cpu 0))) ≡ true
+        → cond b (P.hostile_passes own s g.may w cpu) (S.events_pass own s w (events_made (turn w cpu 0))) ≡ true
         → P.HasPassed own look g w cpu
     by true q e = hostile_passes own look s is g w cpu sound q e
     by false q e = outside_passes own look s is g w cpu sound q e

@@ -114,8 +114,8 @@ DeedAnswers w cpu (D.StoreByte va x) = ⊥
 DeedAnswers w cpu (D.Trap v x y) = ⊥
 DeedAnswers w cpu (D.Call number args) = ⊥
 
--- no turn of a partition outside reads anything of words but what is seen, nor does a poll where a hostile one runs; nor
--- do its deeds, but for loads that are answered
+-- no turn of a partition outside reads anything of words but what is seen, nor does a poll where a hostile one runs;
+-- nor do its deeds, but for loads that are answered
 pub record LooksAway (own : List ℕ) (look : ℕ → ℕ → ℕ → ℕ) (g : Menu) (w : World) (cpu : ℕ) : Type 0 where
   pub turn : is_hostile w.tree.root.name (name_on w cpu) g.may ≡ false → TurnReadsOutside own look w cpu 0
   pub poll : RunsHostile g w cpu → ReadsOutside own look w (E.Poll cpu)
@@ -205,8 +205,8 @@ abbrev pub MasksReadNone : Type 0
 MasksReadNone = (w : World) (cpu n : ℕ) (a b : Five) (m : Bool) → call_named n ≡ Masks m
     → what_happens w (E.Call cpu n a) ≡ what_happens w (E.Call cpu n b)
 
--- an accepted yield that saves to words of which nothing is seen, or nowhere, is on the menu where the same yield is that
--- saves nothing
+-- an accepted yield that saves to words of which nothing is seen, or nowhere, is on the menu where the same yield is
+-- that saves nothing
 abbrev pub YieldsAreOnMenu : Type 0
 YieldsAreOnMenu = (own : List ℕ) (look : ℕ → ℕ → ℕ → ℕ) (g : Menu) (w : World) (cpu n : ℕ) (a : Five) (r : Occupant)
     → call_named n ≡ Yields → runs_on w cpu

@@ -30,7 +30,8 @@ use Rattle.pip_model.specs.Reach.{Faulted, Place, Reached, reach}
 use Rattle.pip_model.specs.RemoveVAddr.{remove_refusals, tree_without_row}
 use Rattle.pip_model.specs.Switching.{node_name, reply_unless, target_node, with_zeros, yield_happens, yield_to}
 use Rattle.pip_model.specs.Switching.{yield_place, yield_refusals, yielded_tree}
-use Rattle.pip_model.specs.Tree.{Node, Tree, below, child_at, word_of, dir, free, has_table, holder, is_place, row_at, vpage}
+use Rattle.pip_model.specs.Tree.{Node, Tree, below, child_at, word_of, dir, free, has_table, holder, is_place, row_at}
+use Rattle.pip_model.specs.Tree.{vpage}
 use Rattle.pip_model.specs.Worlds.{Happened, World, ctx_of, ctx_on, masked_node, running, runs_on}
 use Rattle.pip_model.specs.declared.call_name.CallName.{CallName}
 use Rattle.pip_model.specs.declared.call_name.CallName.TheVariants.{Masks, OnMemory, Unknown, Yields}
@@ -42,7 +43,7 @@ use Rattle.pip_model.specs.declared.processors.Occupant.{Occupant}
 use Rattle.pip_outside.specs.Exits.{ConfinedAlike, ConfinedStaysOrExits, Faults, GoesAway, IsConfined, IsExit, IsMadeOn}
 use Rattle.pip_outside.specs.Exits.{IsSeen, MasksAreUnseen}
 use Rattle.pip_outside.specs.Exits.{SaveIsSeen, SoundConfines}
-use Rattle.pip_outside.specs.Outside.{AlikeTrees, AlikeWord, bare, unmasked}
+use Rattle.pip_outside.specs.Outside.{AlikeTrees, AlikeWord, one_mask, unmasked}
 use Rattle.pip_outside.specs.Unseen.{Answers, ByOneOf, GoesTo, IsUnseen, StaysThere}
 use Rattle.pip_model.proofs.Events.Soundness.{reached_words}
 use Rattle.pip_outside.proofs.Alikes.{tree_alike_same}
@@ -263,7 +264,8 @@ module _ (own : List ℕ) (look : ℕ → ℕ → ℕ → ℕ) (w : World) (cpu 
       ⊎ IsSeen look w.tree va z n (reach w.tree r.name va Store z)
   at_store va z n = go (reach w.tree r.name va Store z) refl
     where
-      go : (q : Reached) → reach w.tree r.name va Store z ≡ q → GoesTo look w.tree va z n q ⊎ IsSeen look w.tree va z n q
+      go : (q : Reached) → reach w.tree r.name va Store z ≡ q → GoesTo look w.tree va z n q
+          ⊎ IsSeen look w.tree va z n q
       go (Faulted f) e = inr tt
       go (Place g j) e = elim (cases_eq (look g j (written_over va z n (word_of (w.tree.words g) j)))
           (look g j (word_of (w.tree.words g) j))) [
@@ -278,7 +280,8 @@ module _ (own : List ℕ) (look : ℕ → ℕ → ℕ → ℕ) (w : World) (cpu 
     | inr x ↦ inr x
   ]
   does (E.Store d va z x) m = elim (at_store va z x) [
-    | inl y ↦ inl (subst (λ n. ByOneOf own (runs_on w n) (λ r. GoesTo look w.tree va z x (reach w.tree r.name va Store z)))
+    | inl y ↦ inl (subst (λ n. ByOneOf own (runs_on w n) (λ r. GoesTo look w.tree va z x
+        (reach w.tree r.name va Store z)))
         (sym m)
         (runs (λ r. GoesTo look w.tree va z x (reach w.tree r.name va Store z)) y))
     | inr y ↦ inr y
@@ -321,7 +324,7 @@ confined_alike look t u p a c = of_bare u p (subst (λ x. IsConfined x p) a.node
     none None e = refl
     none (Some x) e = cc
 
-    of_bare : (u : Tree) (p : ℕ) → IsConfined (bare u) p → IsConfined u p
+    of_bare : (u : Tree) (p : ℕ) → IsConfined (one_mask u) p → IsConfined u p
     of_bare u p c = record {
       leaf = λ d. none (child_at u p d) (sym (child_bare u p d) ∙ c.leaf d);
       creates = λ x. subst (λ o. o ≢ None) (create_refused u p x) (c.creates x);

@@ -13,10 +13,12 @@ use Rattle.pip_model.proofs.OnLists.Members.{any_none, find_in, has_in}
 use Rattle.pip_model.specs.Handlers.{block_at, is_reached, store_at}
 use Rattle.pip_model.specs.Reach.{Alignment, Faulted, Place, Reached, is_misaligned, reach, reach_by_row}
 use Rattle.pip_model.specs.Tree.{Row, Tree, hidden, node, row_at, vpage, word_of}
-use Rattle.pip_outside.specs.Entries.{ClassesAreSights, EntriesHaveClasses, block_class, by_class, class_look, entry_fits}
-use Rattle.pip_outside.specs.Entries.{fits, free_of, is_whole, place_class, rows_same, rows_tree, seen_by, word_class}
+use Rattle.pip_outside.specs.Entries.{ClassesAreSights, EntriesHaveClasses, block_class, by_class, class_look}
+use Rattle.pip_outside.specs.Entries.{entry_fits}
+use Rattle.pip_outside.specs.Entries.{fits_rows, free_of, is_of_word, place_class, rows_same, rows_tree, seen_by}
+use Rattle.pip_outside.specs.Entries.{word_class}
 use Rattle.pip_outside.specs.Outside.{BothLand, EntryMisses, IsOneUse, Lands, seen_but}
-use Rattle.pip_outside.specs.Sights.{all_from}
+use Rattle.pip_outside.specs.Sights.{each_from}
 use Rattle.pip_outside.proofs.Testing.{all_are, both, off}
 
 module _ (blind : ℕ → ℕ → Bool) (entries : ℕ → ℕ → Option (ℕ → ℕ)) (apart : (h j : ℕ) → blind h j ≡ true
@@ -24,7 +26,7 @@ module _ (blind : ℕ → ℕ → Bool) (entries : ℕ → ℕ → Option (ℕ �
   abbrev look : ℕ → ℕ → ℕ → ℕ
   look = seen_by blind entries
 
-  land : (g i : ℕ) → all_from (λ j. blind g j) 17 i ≡ true → Lands look (Place g i)
+  land : (g i : ℕ) → each_from (λ j. blind g j) 17 i ≡ true → Lands look (Place g i)
   land g i e j l k x y =
       let b = all_are (λ j. blind g j) 17 i e j l k in
       rw (apart g j b, b)
@@ -32,19 +34,20 @@ module _ (blind : ℕ → ℕ → Bool) (entries : ℕ → ℕ → Option (ℕ �
   -- two blocks of one class
   places : (x y : ℕ) (q r : Reached) → place_class blind x q ≡ place_class blind y r → (x ≡ y) ⊎ BothLand look q r
   places x y (Faulted f) (Faulted e) k = inr tt
-  places x y (Faulted f) (Place h j) k = absurd (go (all_from (λ k. blind h k) 17 j) k)
+  places x y (Faulted f) (Place h j) k = absurd (go (each_from (λ k. blind h k) 17 j) k)
     where
       go : (b : Bool) → 1 ≡ cond b 2 (3 + y) → ⊥
       go true k = cc
       go false k = omega (arith, k)
-  places x y (Place g i) (Faulted f) k = absurd (go (all_from (λ j. blind g j) 17 i) k)
+  places x y (Place g i) (Faulted f) k = absurd (go (each_from (λ j. blind g j) 17 i) k)
     where
       go : (b : Bool) → cond b 2 (3 + x) ≡ 1 → ⊥
       go true k = cc
       go false k = omega (arith, k)
-  places x y (Place g i) (Place h j) k = go (all_from (λ j. blind g j) 17 i) (all_from (λ k. blind h k) 17 j) refl refl k
+  places x y (Place g i) (Place h j) k = go (each_from (λ j. blind g j) 17 i) (each_from
+      (λ k. blind h k) 17 j) refl refl k
     where
-      go : (b c : Bool) → all_from (λ j. blind g j) 17 i ≡ b → all_from (λ k. blind h k) 17 j ≡ c
+      go : (b c : Bool) → each_from (λ j. blind g j) 17 i ≡ b → each_from (λ k. blind h k) 17 j ≡ c
           → cond b 2 (3 + x) ≡ cond c 2 (3 + y) → (x ≡ y) ⊎ BothLand look (Place g i) (Place h j)
       go true true d e k = inr (land g i d, land h j e)
       go true false d e k = absurd (omega (arith, k))
@@ -57,7 +60,7 @@ module _ (blind : ℕ → ℕ → Bool) (entries : ℕ → ℕ → Option (ℕ �
     where
       some : (n : ℕ) (q : Reached) → 0 ≡ place_class blind n q → ⊥
       some n (Faulted f) k = cc
-      some n (Place g i) k = by (all_from (λ j. blind g j) 17 i) k
+      some n (Place g i) k = by (each_from (λ j. blind g j) 17 i) k
         where
           by : (b : Bool) → 0 ≡ cond b 2 (3 + n) → ⊥
           by true k = cc
@@ -76,7 +79,8 @@ module _ (blind : ℕ → ℕ → Bool) (entries : ℕ → ℕ → Option (ℕ �
 pub entries_have_classes : EntriesHaveClasses
 entries_have_classes own blind entries t p g i f in_own apart at is y k =
     let x = word_of (t.words g) i in
-    let same : f x ≡ f y = subst (λ o. by_class o (seen_but blind g i x) x ≡ by_class o (seen_but blind g i y) y) at k in
+    let same : f x ≡ f y = subst (λ o. by_class o (seen_but blind g i x) x
+    ≡ by_class o (seen_but blind g i y) y) at k in
     elim (one_use blind entries apart t p x y (sym (is x) ∙ same ∙ is y)) [
       | inl e ↦ inl e
       | inr u ↦ inr (in_own, u)
@@ -84,7 +88,7 @@ entries_have_classes own blind entries t p g i f in_own apart at is y k =
 
 -- ---- the test
 
-module _ (t : Tree) (p : ℕ) (rows : List Row) (fit : fits t p rows ≡ true) where
+module _ (t : Tree) (p : ℕ) (rows : List Row) (fit : fits_rows t p rows ≡ true) where
   rows_are : (rs ss : List Row) → rows_same rs ss ≡ true → rs ≡ ss
   rows_are [] [] e = refl
   rows_are [] (s ∷ ss) e = cc
@@ -113,7 +117,8 @@ module _ (t : Tree) (p : ℕ) (rows : List Row) (fit : fits t p rows ≡ true) w
       by false false e = refl
 
   same_reach : (va : ℕ) (a : Access) (z : Size) → reach (rows_tree rows) 0 va a z ≡ reach t p va a z
-  same_reach va a z = rw own_rows (ap (cond (is_misaligned va z) (Faulted Alignment)) (by (row_at rows (vpage va)) refl))
+  same_reach va a z = rw own_rows (ap (cond (is_misaligned va z) (Faulted Alignment)) (by (row_at rows
+      (vpage va)) refl))
     where
       by : (o : Option Row) → row_at rows (vpage va) ≡ o
           → reach_by_row (rows_tree rows) va a o ≡ reach_by_row t va a o
@@ -157,7 +162,7 @@ classes_are_sights own blind kept = record {
     none None false x y e = cc
     none None true x y e = refl
 
-    stores : (o : Option (List Row)) (b : Bool) (va : ℕ) (z : Size) (n x y : ℕ) → (is_whole z || is_none o) ≡ true
+    stores : (o : Option (List Row)) (b : Bool) (va : ℕ) (z : Size) (n x y : ℕ) → (is_of_word z || is_none o) ≡ true
         → at o b x ≡ at o b y → at o b (written_over va z n x) ≡ at o b (written_over va z n y)
     stores o b va Word n x y e k = refl
     stores (Some rows) b va Byte n x y e k = cc
@@ -176,5 +181,6 @@ classes_are_sights own blind kept = record {
     entry t p g i None q e = λ y k. inl (seen (kept g i) (blind g i) (word_of (t.words g) i) y (rw q e) k)
     entry t p g i (Some rows) q e =
         let (mine, fit) = both _ _ e in
-        entries_have_classes own free (λ h j. option_map class (kept h j)) t p g i (class rows) (has_in p own mine) apart
+        entries_have_classes own free (λ h j. option_map class (kept h j)) t p g i (class rows)
+        (has_in p own mine) apart
         (ap (option_map class) q) (same_class t p rows fit free)

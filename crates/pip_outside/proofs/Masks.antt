@@ -1,7 +1,9 @@
 -- The mask of a partition that isn't the root is read by no event.
-use Rattle.std.proofs.Common.{◌≡◌, ◌≢◌, ℕ, zero, suc, ◌+◌, ◌*◌, ◌%◌, ◌==◌, ◌&&◌, ◌||◌, not, Bool, true, false, cond, List, [], ◌∷◌, ◌++◌}
+use Rattle.std.proofs.Common.{◌≡◌, ◌≢◌, ℕ, zero, suc, ◌+◌, ◌*◌, ◌%◌, ◌==◌, ◌&&◌, ◌||◌, not, Bool, true, false, cond}
+use Rattle.std.proofs.Common.{List, [], ◌∷◌, ◌++◌}
 use Rattle.std.proofs.Common.{map, refl, sym, ap, ap₂, ◌∙◌, Option, Some, None}
-use Rattle.std.specs.Prelude.{filter, find, flat_map, is_none, is_some, nat_le, nat_lt, option_map, slice_set, unwrap_or}
+use Rattle.std.specs.Prelude.{filter, find, flat_map, is_none, is_some, nat_le, nat_lt, option_map, slice_set}
+use Rattle.std.specs.Prelude.{unwrap_or}
 use Rattle.std.specs.List.{list_any}
 use Rattle.std.proofs.lemmas.Bool.{ne_eqb}
 use Rattle.pip_base.specs.declared.types.Access.{Access}
@@ -22,7 +24,8 @@ use Rattle.pip_model.specs.Handlers.{store_at}
 use Rattle.pip_model.specs.Lists.{has}
 use Rattle.pip_model.specs.Reach.{Alignment, Faulted, Place, Reached, Unmapped, is_misaligned, reach}
 use Rattle.pip_model.specs.Reach.{reach_by_row, word_reached}
-use Rattle.pip_model.specs.Tree.{Node, Row, Table, Tree, dir, word_of, ancestry, below, chain, chain_in, change_at, change_node, child_at, children, config}
+use Rattle.pip_model.specs.Tree.{Node, Row, Table, Tree, dir, word_of, ancestry, below, chain, chain_in, change_at}
+use Rattle.pip_model.specs.Tree.{change_node, child_at, children, config}
 use Rattle.pip_model.specs.Tree.{free, hidden, holder, holds, is_free_row, names_of, node, nodes, row_at, vpage}
 use Rattle.pip_model.specs.Worlds.{Happened, World, lines_in, masked_node, running, runs_on, save_running}
 use Rattle.pip_model.specs.Worlds.{with_masked, with_pending}
@@ -43,7 +46,8 @@ use Rattle.pip_model.specs.Poll.{lines_with, lowest_line, may_take, none_taken, 
 use Rattle.pip_model.specs.Prepare.{PageChain, Pages, Refused, next_in_chain, page_chain, prepare}
 use Rattle.pip_model.specs.Prepare.{prepare_with, tree_with_table, with_table}
 use Rattle.pip_model.specs.RemoveVAddr.{remove_refusals, remove_vaddr, without_row}
-use Rattle.pip_model.specs.Switching.{node_name, reply_happens, reply_unless, target_node, with_reply, with_zeros, yield}
+use Rattle.pip_model.specs.Switching.{node_name, reply_happens, reply_unless, target_node, with_reply, with_zeros}
+use Rattle.pip_model.specs.Switching.{yield}
 use Rattle.pip_model.specs.Switching.{yield_happens, yield_refusals, yield_to, yielded_tree}
 use Rattle.pip_model.specs.declared.call_name.CallName.{CallName}
 use Rattle.pip_model.specs.declared.call_name.CallName.TheVariants.{Masks, OnMemory, Unknown, Yields}
@@ -53,7 +57,7 @@ use Rattle.pip_model.specs.declared.call_name.MemoryCall.TheVariants.{DeletePart
 use Rattle.pip_model.specs.declared.call_name.MemoryCall.TheVariants.{RemoveVAddr}
 use Rattle.pip_model.specs.declared.processors.Occupant.{Occupant}
 use Rattle.pip_model.specs.declared.processors.Taker.{Taker}
-use Rattle.pip_outside.specs.Outside.{AlikeTrees, bare, unmasked}
+use Rattle.pip_outside.specs.Outside.{AlikeTrees, one_mask, unmasked}
 
 -- ---- lists of nodes
 
@@ -122,7 +126,7 @@ joined n root xs ys u v e d = λ i. record { frames = n; root = root; others = e
 -- ---- what is read of a tree
 
 module _ (t : Tree) where
-  node_bare : (p : ℕ) → unmasked (node (bare t) p) ≡ unmasked (node t p)
+  node_bare : (p : ℕ) → unmasked (node (one_mask t) p) ≡ unmasked (node t p)
   node_bare p = ap (λ o. unmasked (unwrap_or (cond (t.root.name == p) (Some t.root) o) t.root))
       (found (λ x. x.name == p) t.others) ∙ by (t.root.name == p) (find (λ x. x.name == p) t.others)
     where
@@ -132,68 +136,70 @@ module _ (t : Tree) where
       by false None = refl
       by false (Some x) = refl
 
-  rows_bare : (p : ℕ) → (node (bare t) p).rows ≡ (node t p).rows
+  rows_bare : (p : ℕ) → (node (one_mask t) p).rows ≡ (node t p).rows
   rows_bare p = ap (λ x. x.rows) (node_bare p)
 
-  pub child_bare : (p d : ℕ) → child_at (bare t) p d ≡ option_map unmasked (child_at t p d)
+  pub child_bare : (p d : ℕ) → child_at (one_mask t) p d ≡ option_map unmasked (child_at t p d)
   child_bare p d = ap (find (λ x. x.born == d)) (filtered (λ x. x.up == p) t.others) ∙ found _ (children t p)
 
-  holder_bare : (p g : ℕ) → holder (bare t) p g ≡ option_map unmasked (holder t p g)
+  holder_bare : (p g : ℕ) → holder (one_mask t) p g ≡ option_map unmasked (holder t p g)
   holder_bare p g = ap (find (λ x. holds x g)) (filtered (λ x. x.up == p) t.others) ∙ found _ (children t p)
 
-  hidden_bare : (g : ℕ) → hidden (bare t) g ≡ hidden t g
+  hidden_bare : (g : ℕ) → hidden (one_mask t) g ≡ hidden t g
   hidden_bare g = ap (λ b. has (config t.root) g || b) (any (λ x. has (config x) g) t.others)
 
-  pub reach_bare : (p va : ℕ) (a : Access) (z : Size) → reach (bare t) p va a z ≡ reach t p va a z
+  pub reach_bare : (p va : ℕ) (a : Access) (z : Size) → reach (one_mask t) p va a z ≡ reach t p va a z
   reach_bare p va a z = ap (cond (is_misaligned va z) (Faulted Alignment))
-      (ap (λ rs. reach_by_row (bare t) va a (row_at rs (vpage va))) (rows_bare p) ∙ by (row_at (node t p).rows (vpage va)))
+      (ap (λ rs. reach_by_row (one_mask t) va a (row_at rs (vpage va))) (rows_bare p)
+      ∙ by (row_at (node t p).rows (vpage va)))
     where
-      by : (o : Option Row) → reach_by_row (bare t) va a o ≡ reach_by_row t va a o
+      by : (o : Option Row) → reach_by_row (one_mask t) va a o ≡ reach_by_row t va a o
       by None = refl
       by (Some r) = rw (hidden_bare r.frame)
 
-  block_bare : (p k : ℕ) → block (bare t) p k ≡ block t p k
-  block_bare p k = ap (λ q. block_at (bare t) p (word_reached (bare t) q)) (reach_bare p (0xfffff000 + 4 * k) Load Word)
+  block_bare : (p k : ℕ) → block (one_mask t) p k ≡ block t p k
+  block_bare p k = ap (λ q. block_at (one_mask t) p (word_reached (one_mask t) q)) (reach_bare p
+      (0xfffff000 + 4 * k) Load Word)
       ∙ at (reach t p (0xfffff000 + 4 * k) Load Word)
     where
-      by : (o : Option ℕ) → block_at (bare t) p o ≡ block_at t p o
+      by : (o : Option ℕ) → block_at (one_mask t) p o ≡ block_at t p o
       by None = refl
       by (Some a) = ap (λ q. cond ((a % 4 == 0 && nat_le (a % 4096) 4028) && is_reached q) (Some a) None)
           (reach_bare p a Load Word)
 
-      at : (q : Reached) → block_at (bare t) p (word_reached (bare t) q) ≡ block_at t p (word_reached t q)
+      at : (q : Reached) → block_at (one_mask t) p (word_reached (one_mask t) q) ≡ block_at t p (word_reached t q)
       at (Place g i) = by (word_reached t (Place g i))
       at (Faulted f) = refl
 
-  pub handler_bare : (p k : ℕ) → handler (bare t) p k ≡ handler t p k
-  handler_bare p k = ap (handler_at (bare t) p) (block_bare p k) ∙ by (block t p k)
+  pub handler_bare : (p k : ℕ) → handler (one_mask t) p k ≡ handler t p k
+  handler_bare p k = ap (handler_at (one_mask t) p) (block_bare p k) ∙ by (block t p k)
     where
-      at : (q : Reached) → context_reached (bare t) q ≡ context_reached t q
+      at : (q : Reached) → context_reached (one_mask t) q ≡ context_reached t q
       at (Place g i) = refl
       at (Faulted f) = refl
 
-      by : (o : Option ℕ) → handler_at (bare t) p o ≡ handler_at t p o
+      by : (o : Option ℕ) → handler_at (one_mask t) p o ≡ handler_at t p o
       by None = refl
-      by (Some a) = ap (context_reached (bare t)) (reach_bare p a Load Word) ∙ at (reach t p a Load Word)
+      by (Some a) = ap (context_reached (one_mask t)) (reach_bare p a Load Word) ∙ at (reach t p a Load Word)
 
-  pub place_bare : (p k : ℕ) → save_place (bare t) p k ≡ save_place t p k
-  place_bare p k = ap (store_at (bare t) p) (block_bare p k) ∙ by (block t p k)
+  pub place_bare : (p k : ℕ) → save_place (one_mask t) p k ≡ save_place t p k
+  place_bare p k = ap (store_at (one_mask t) p) (block_bare p k) ∙ by (block t p k)
     where
-      by : (o : Option ℕ) → store_at (bare t) p o ≡ store_at t p o
+      by : (o : Option ℕ) → store_at (one_mask t) p o ≡ store_at t p o
       by None = refl
       by (Some a) = reach_bare p a Store Word
 
-  none_bare : (p d : ℕ) → is_none (child_at (bare t) p d) ≡ is_none (child_at t p d)
+  none_bare : (p d : ℕ) → is_none (child_at (one_mask t) p d) ≡ is_none (child_at t p d)
   none_bare p d = ap is_none (child_bare p d) ∙ no_node (child_at t p d)
 
-  child_of_bare : (p d : ℕ) → child_of (bare t) p d ≡ unmasked (child_of t p d)
+  child_of_bare : (p d : ℕ) → child_of (one_mask t) p d ≡ unmasked (child_of t p d)
   child_of_bare p d = ap (λ o. unwrap_or o nobody) (child_bare p d) ∙ by (child_at t p d)
     where
       by : (o : Option Node) → unwrap_or (option_map unmasked o) nobody ≡ unmasked (unwrap_or o nobody)
       by None = refl
       by (Some x) = refl
 
-  child_name_bare : (p d : ℕ) → child_name (bare t) p d ≡ child_name t p d
+  child_name_bare : (p d : ℕ) → child_name (one_mask t) p d ≡ child_name t p d
   child_name_bare p d = ap (λ o. unwrap_or (option_map (λ x. x.name) o) 0) (child_bare p d) ∙ by (child_at t p d)
     where
       by : (o : Option Node) → unwrap_or (option_map (λ x. x.name) (option_map unmasked o)) 0
@@ -201,19 +207,19 @@ module _ (t : Tree) where
       by None = refl
       by (Some x) = refl
 
-  free_bare : (p v : ℕ) → free (bare t) p v ≡ free t p v
-  free_bare p v = ap (λ rs. is_free_row (bare t) p (row_at rs v)) (rows_bare p) ∙ by (row_at (node t p).rows v)
+  free_bare : (p v : ℕ) → free (one_mask t) p v ≡ free t p v
+  free_bare p v = ap (λ rs. is_free_row (one_mask t) p (row_at rs v)) (rows_bare p) ∙ by (row_at (node t p).rows v)
     where
-      by : (o : Option Row) → is_free_row (bare t) p o ≡ is_free_row t p o
+      by : (o : Option Row) → is_free_row (one_mask t) p o ≡ is_free_row t p o
       by None = refl
       by (Some r) = ap is_none (holder_bare p r.frame) ∙ no_node (holder t p r.frame)
 
-  ancestry_bare : (p : ℕ) → ancestry (bare t) p ≡ ancestry t p
+  ancestry_bare : (p : ℕ) → ancestry (one_mask t) p ≡ ancestry t p
   ancestry_bare p =
-      sym (names (chain (bare t) p)) ∙ ap names_of (ancestors t.root t.others p) ∙ names (chain t p)
+      sym (names (chain (one_mask t) p)) ∙ ap names_of (ancestors t.root t.others p) ∙ names (chain t p)
 
-  below_bare : (c : ℕ) → map unmasked (below (bare t) c) ≡ map unmasked (below t c)
-  below_bare c = (λ i. map unmasked (filter (λ x. has (ancestry_bare x.name i) c) (nodes (bare t))))
+  below_bare : (c : ℕ) → map unmasked (below (one_mask t) c) ≡ map unmasked (below t c)
+  below_bare c = (λ i. map unmasked (filter (λ x. has (ancestry_bare x.name i) c) (nodes (one_mask t))))
       ∙ by (has (ancestry t t.root.name) c) _ _ (ap (map unmasked) (filtered (λ x. has (ancestry t x.name) c) t.others)
       ∙ twice (filter (λ x. has (ancestry t x.name) c) t.others))
     where
@@ -228,22 +234,23 @@ module _ (t : Tree) where
   record SameAnswers (a b : Answer) : Type 0 where
     status : a.status ≡ b.status
     value : a.value ≡ b.value
-    tree : bare a.tree ≡ bare b.tree
+    tree : one_mask a.tree ≡ one_mask b.tree
 
-  same_tree : bare (bare t) ≡ bare t
+  same_tree : one_mask (one_mask t) ≡ one_mask t
   same_tree = ap (λ xs. record t { others = xs }) (twice t.others)
 
   unless : (o q : Option Status) (a b : Answer) → o ≡ q → SameAnswers a b
-      → SameAnswers (answer_unless (bare t) o a) (answer_unless t q b)
+      → SameAnswers (answer_unless (one_mask t) o a) (answer_unless t q b)
   unless o q a b e k = rw e (by q)
     where
-      by : (o : Option Status) → SameAnswers (answer_unless (bare t) o a) (answer_unless t o b)
+      by : (o : Option Status) → SameAnswers (answer_unless (one_mask t) o a) (answer_unless t o b)
       by None = k
       by (Some s) = record { status = refl; value = refl; tree = same_tree }
 
   changed : (c : ℕ) (f : Node → Node) (u v : ℕ → Option (ℕ → ℕ)) → ((x : Node) → unmasked (f (unmasked x))
       ≡ unmasked (f x)) → u ≡ v
-      → bare (record (change_node c f (bare t)) { words = u }) ≡ bare (record (change_node c f t) { words = v })
+      → one_mask (record (change_node c f (one_mask t)) { words = u })
+      ≡ one_mask (record (change_node c f t) { words = v })
   changed c f u v s e =
       joined _ _ _ _ _ _ (mapped (change_at c f) (λ x. by x (x.name == c)) t.others) e
     where
@@ -251,7 +258,8 @@ module _ (t : Tree) where
       by x true = s x
       by x false = refl
 
-  pub create_refused : (p : ℕ) (a : Five) → first_met (create_refusals (bare t) p a) ≡ first_met (create_refusals t p a)
+  pub create_refused : (p : ℕ) (a : Five) → first_met (create_refusals (one_mask t) p a)
+      ≡ first_met (create_refusals t p a)
   create_refused p a = cc (
     rows_bare p,
     free_bare p (vpage a.x0),
@@ -261,10 +269,10 @@ module _ (t : Tree) where
     free_bare p (vpage a.x4),
   )
 
-  page_bare : (p a : ℕ) → page_of (bare t) p a ≡ page_of t p a
+  page_bare : (p a : ℕ) → page_of (one_mask t) p a ≡ page_of t p a
   page_bare p a = ap (λ rs. unwrap_or (option_map (λ r. r.frame) (row_at rs (vpage a))) 0) (rows_bare p)
 
-  create_bare : (p : ℕ) (a : Five) → SameAnswers (create_partition (bare t) p a) (create_partition t p a)
+  create_bare : (p : ℕ) (a : Five) → SameAnswers (create_partition (one_mask t) p a) (create_partition t p a)
   create_bare p a = unless _ _ _ _ (create_refused p a)
       (record {
         status = refl;
@@ -273,35 +281,36 @@ module _ (t : Tree) where
             (ap (λ x. words_without (config x) t.words) newborn_bare);
       })
     where
-      newborn_bare : newborn (bare t) p a ≡ newborn t p a
+      newborn_bare : newborn (one_mask t) p a ≡ newborn t p a
       newborn_bare = cc (rows_bare p)
 
-  delete_bare : (rs : List ℕ) (p d : ℕ) → SameAnswers (delete_partition (bare t) rs p d) (delete_partition t rs p d)
-  delete_bare rs p d = unless (first_met (delete_refusals (bare t) rs p d)) (first_met (delete_refusals t rs p d)) _ _
+  delete_bare : (rs : List ℕ) (p d : ℕ) → SameAnswers (delete_partition (one_mask t) rs p d) (delete_partition t rs p d)
+  delete_bare rs p d = unless (first_met (delete_refusals (one_mask t) rs p d))
+      (first_met (delete_refusals t rs p d)) _ _
       (cc (none_bare p d, runs))
       (record {
         status = refl;
         value = refl;
-        tree = ap (λ c. bare (tree_without_subtree (bare t) c)) (child_name_bare p d) ∙ gone (child_name t p d);
+        tree = ap (λ c. one_mask (tree_without_subtree (one_mask t) c)) (child_name_bare p d) ∙ gone (child_name t p d);
       })
     where
-      runs : some_run rs (below (bare t) (child_name (bare t) p d)) ≡ some_run rs (below t (child_name t p d))
-      runs = ap (λ c. some_run rs (below (bare t) c)) (child_name_bare p d)
-          ∙ sym (any (λ x. has rs x.name) (below (bare t) (child_name t p d)))
+      runs : some_run rs (below (one_mask t) (child_name (one_mask t) p d)) ≡ some_run rs (below t (child_name t p d))
+      runs = ap (λ c. some_run rs (below (one_mask t) c)) (child_name_bare p d)
+          ∙ sym (any (λ x. has rs x.name) (below (one_mask t) (child_name t p d)))
           ∙ ap (some_run rs) (below_bare (child_name t p d)) ∙ any (λ x. has rs x.name) (below t (child_name t p d))
 
-      gone : (c : ℕ) → bare (tree_without_subtree (bare t) c) ≡ bare (tree_without_subtree t c)
+      gone : (c : ℕ) → one_mask (tree_without_subtree (one_mask t) c) ≡ one_mask (tree_without_subtree t c)
       gone c =
           let o = (λ i. filter (λ x. not (has (ancestry_bare x.name i) c)) (map unmasked t.others))
           ∙ filtered (λ x. not (has (ancestry t x.name) c)) t.others in
           let os = ap (map unmasked) o ∙ twice (filter (λ x. not (has (ancestry t x.name) c)) t.others) in
-          let cs = sym (configs (below (bare t) c)) ∙ ap (flat_map config) (below_bare c) ∙ configs (below t c) in
+          let cs = sym (configs (below (one_mask t) c)) ∙ ap (flat_map config) (below_bare c) ∙ configs (below t c) in
           joined _ _ _ _ _ _ os (ap (λ l. words_cleared l t.words) cs)
 
-  count_refused : (p d cv : ℕ) → first_met (count_refusals (bare t) p d cv) ≡ first_met (count_refusals t p d cv)
+  count_refused : (p d cv : ℕ) → first_met (count_refusals (one_mask t) p d cv) ≡ first_met (count_refusals t p d cv)
   count_refused p d cv = cc (none_bare p d)
 
-  count_bare : (p d cv : ℕ) → SameAnswers (count_to_map (bare t) p d cv) (count_to_map t p d cv)
+  count_bare : (p d cv : ℕ) → SameAnswers (count_to_map (one_mask t) p d cv) (count_to_map t p d cv)
   count_bare p d cv = unless _ _ _ _ (count_refused p d cv)
       (record {
         status = refl;
@@ -309,11 +318,12 @@ module _ (t : Tree) where
         tree = same_tree;
       })
 
-  mapped_bare : (p v : ℕ) → SameAnswers (mapped_in_child (bare t) p v) (mapped_in_child t p v)
-  mapped_bare p v = unless (first_met (find_refusals (bare t) p v)) (first_met (find_refusals t p v)) _ _ (cc (rows_bare p))
+  mapped_bare : (p v : ℕ) → SameAnswers (mapped_in_child (one_mask t) p v) (mapped_in_child t p v)
+  mapped_bare p v = unless (first_met (find_refusals (one_mask t) p v)) (first_met (find_refusals t p v))
+      _ _ (cc (rows_bare p))
       (record {
         status = refl;
-        value = ap (λ g. holder_born (holder (bare t) p g)) (page_bare p v)
+        value = ap (λ g. holder_born (holder (one_mask t) p g)) (page_bare p v)
             ∙ ap holder_born (holder_bare p (page_of t p v)) ∙ by (holder t p (page_of t p v));
         tree = same_tree;
       })
@@ -322,8 +332,9 @@ module _ (t : Tree) where
       by None = refl
       by (Some x) = refl
 
-  remove_bare : (p d cv : ℕ) → SameAnswers (remove_vaddr (bare t) p d cv) (remove_vaddr t p d cv)
-  remove_bare p d cv = unless (first_met (remove_refusals (bare t) p d cv)) (first_met (remove_refusals t p d cv)) _ _
+  remove_bare : (p d cv : ℕ) → SameAnswers (remove_vaddr (one_mask t) p d cv) (remove_vaddr t p d cv)
+  remove_bare p d cv = unless (first_met (remove_refusals (one_mask t) p d cv))
+      (first_met (remove_refusals t p d cv)) _ _
       (cc (none_bare p d, child_of_bare p d, lent))
       (record {
         status = refl;
@@ -331,11 +342,12 @@ module _ (t : Tree) where
         tree = rw (child_name_bare p d) (changed (child_name t p d) (without_row (vpage cv)) _ _ (λ x. refl) refl);
       })
     where
-      lent : free (bare t) (child_name (bare t) p d) (vpage cv) ≡ free t (child_name t p d) (vpage cv)
-      lent = ap (λ n. free (bare t) n (vpage cv)) (child_name_bare p d) ∙ free_bare (child_name t p d) (vpage cv)
+      lent : free (one_mask t) (child_name (one_mask t) p d) (vpage cv) ≡ free t (child_name t p d) (vpage cv)
+      lent = ap (λ n. free (one_mask t) n (vpage cv)) (child_name_bare p d) ∙ free_bare (child_name t p d) (vpage cv)
 
-  add_bare : (p v d cv n : ℕ) → SameAnswers (add_vaddr (bare t) p v d cv n) (add_vaddr t p v d cv n)
-  add_bare p v d cv n = unless (first_met (add_refusals (bare t) p v d cv n)) (first_met (add_refusals t p v d cv n)) _ _
+  add_bare : (p v d cv n : ℕ) → SameAnswers (add_vaddr (one_mask t) p v d cv n) (add_vaddr t p v d cv n)
+  add_bare p v d cv n = unless (first_met (add_refusals (one_mask t) p v d cv n)) (first_met
+      (add_refusals t p v d cv n)) _ _
       (cc (none_bare p d, child_of_bare p d, rows_bare p, free_bare p (vpage v)))
       (record {
         status = refl;
@@ -347,8 +359,9 @@ module _ (t : Tree) where
       row : ℕ → Row
       row g = record { at = vpage cv; frame = g; rights = n }
 
-  collect_bare : (p d cv : ℕ) → SameAnswers (collect (bare t) p d cv) (collect t p d cv)
-  collect_bare p d cv = unless (first_met (collect_refusals (bare t) p d cv)) (first_met (collect_refusals t p d cv)) _ _
+  collect_bare : (p d cv : ℕ) → SameAnswers (collect (one_mask t) p d cv) (collect t p d cv)
+  collect_bare p d cv = unless (first_met (collect_refusals (one_mask t) p d cv)) (first_met
+      (collect_refusals t p d cv)) _ _
       (cc (none_bare p d, child_of_bare p d))
       (record {
         status = refl;
@@ -361,34 +374,35 @@ module _ (t : Tree) where
       by x None = refl
       by x (Some y) = refl
 
-      gs : returned_pages (child_of (bare t) p d) (table_for (child_of (bare t) p d) (vpage cv))
+      gs : returned_pages (child_of (one_mask t) p d) (table_for (child_of (one_mask t) p d) (vpage cv))
           ≡ returned_pages (child_of t p d) (table_for (child_of t p d) (vpage cv))
       gs = ap (λ x. returned_pages x (table_for x (vpage cv))) (child_of_bare p d)
           ∙ by (child_of t p d) (table_for (child_of t p d) (vpage cv))
 
-  chain_bare : (p k : ℕ) (seen : List ℕ) (a : ℕ) → page_chain (bare t) p k seen a ≡ page_chain t p k seen a
+  chain_bare : (p k : ℕ) (seen : List ℕ) (a : ℕ) → page_chain (one_mask t) p k seen a ≡ page_chain t p k seen a
   chain_bare p zero seen a = refl
   chain_bare p (suc k) seen a =
       cc (rows_bare p, free_bare p (vpage a), chain_bare p k (a ∷ seen) (next_in_chain t p a))
 
-  prepare_bare : (p d cv a : ℕ) → SameAnswers (prepare (bare t) p d cv a) (prepare t p d cv a)
+  prepare_bare : (p d cv a : ℕ) → SameAnswers (prepare (one_mask t) p d cv a) (prepare t p d cv a)
   prepare_bare p d cv a = unless _ _ _ _ (count_refused p d cv)
       (rw (child_name_bare p d, n, chain_bare p k [] a) (by (page_chain t p k [] a)))
     where
       k : ℕ
       k = pages_needed (child_of t p d) (vpage cv)
 
-      n : pages_needed (child_of (bare t) p d) (vpage cv) ≡ k
+      n : pages_needed (child_of (one_mask t) p d) (vpage cv) ≡ k
       n = ap (λ x. pages_needed x (vpage cv)) (child_of_bare p d)
 
-      at : (c j : ℕ) (gs : List Pair) → bare (tree_with_table (bare t) c j gs) ≡ bare (tree_with_table t c j gs)
+      at : (c j : ℕ) (gs : List Pair) → one_mask (tree_with_table (one_mask t) c j gs)
+          ≡ one_mask (tree_with_table t c j gs)
       at c j [] = same_tree
       at c j (g0 ∷ []) = same_tree
       at c j (g0 ∷ g1 ∷ []) = same_tree
       at c j (g0 ∷ g1 ∷ g2 ∷ gs) =
           changed c (with_table (record { index = j; mmu = g0; shadow1 = g1; shadow2 = g2 }) gs) _ _ (λ x. refl) refl
 
-      by : (q : PageChain) → SameAnswers (prepare_with (bare t) (child_name t p d) (vpage cv) k q)
+      by : (q : PageChain) → SameAnswers (prepare_with (one_mask t) (child_name t p d) (vpage cv) k q)
           (prepare_with t (child_name t p d) (vpage cv) k q)
       by (Refused s) = record { status = refl; value = refl; tree = same_tree }
       by (Pages gs) = record { status = refl; value = refl; tree = at (child_name t p d) (dir (vpage cv)) gs }
@@ -398,7 +412,7 @@ module _ (t : Tree) where
 -- two outcomes are one, and the worlds differ in masks alone
 pub record Same (x y : Happened) : Type 0 where
   pub outcome : x.outcome ≡ y.outcome
-  pub tree : bare x.world.tree ≡ bare y.world.tree
+  pub tree : one_mask x.world.tree ≡ one_mask y.world.tree
   pub cpus : x.world.cpus ≡ y.world.cpus
 
 -- two nodes of one name, or none
@@ -408,12 +422,12 @@ Names o q = (node_name o ≡ node_name q) × (is_none o ≡ is_none q)
 module _ (w : World) where
   -- the same world without these masks
   abbrev v : World
-  v = record w { tree = bare w.tree }
+  v = record w { tree = one_mask w.tree }
 
   still : (o : Outcome) → Same (record { outcome = o; world = v }) (record { outcome = o; world = w })
   still o = record { outcome = refl; tree = same_tree w.tree; cpus = refl }
 
-  saved : (c : Ctx) (p k : ℕ) → bare (save (bare w.tree) p k c) ≡ bare (save w.tree p k c)
+  saved : (c : Ctx) (p k : ℕ) → one_mask (save (one_mask w.tree) p k c) ≡ one_mask (save w.tree p k c)
   saved c p k = joined _ _ _ _ _ _ (twice w.tree.others) (ap (λ q. (saved_to w.tree c q).words) (place_bare w.tree p k))
 
   -- the nearest taker, where a list of nodes has no masks
@@ -511,14 +525,15 @@ module _ (w : World) where
           by false false d = rw (child_bare w.tree r.name a.x0) (child (child_at w.tree r.name a.x0))
 
       to : (o q : Option Node) → Names o q → Same (yield_to v cpu r a o) (yield_to w cpu r a q)
-      to o q n = passes _ _ _ _ _ _ refusals n.0 (ap (λ m. handler v.tree m a.x1) n.0 ∙ handler_bare w.tree (node_name q)
+      to o q n = passes _ _ _ _ _ _ refusals n.0 (ap (λ m. handler v.tree m a.x1) n.0
+          ∙ handler_bare w.tree (node_name q)
           a.x1)
         where
           refusals : first_met (yield_refusals v r.name a o) ≡ first_met (yield_refusals w r.name a q)
           refusals =
               cc (n.0, n.1, handler_bare w.tree (node_name q) a.x1, place_bare w.tree r.name a.x2)
 
-          tree : bare (yielded_tree v.tree r a.x2) ≡ bare (yielded_tree w.tree r a.x2)
+          tree : one_mask (yielded_tree v.tree r a.x2) ≡ one_mask (yielded_tree w.tree r a.x2)
           tree =
               joined _ _ _ _ _ _ (mapped (masked_node w.tree.root.name
               (cond (r.name == w.tree.root.name) false w.tree.root.masked)) (λ x. refl) w.tree.others)
@@ -560,8 +575,8 @@ module _ (w : World) where
 
       -- the tree after a line was taken
       lined : (n : ℕ) (js : List ℕ) (o : Option Occupant)
-          → bare (with_pending js (with_masked n true (save_running v.tree o)))
-          ≡ bare (with_pending js (with_masked n true (save_running w.tree o)))
+          → one_mask (with_pending js (with_masked n true (save_running v.tree o)))
+          ≡ one_mask (with_pending js (with_masked n true (save_running w.tree o)))
       lined n js o = by o
         where
           others : (xs : List Node) → map unmasked (map (lines_in w.tree.root.name js) (map (masked_node n true)
@@ -569,15 +584,16 @@ module _ (w : World) where
           others [] = refl
           others (x ∷ xs) = ap (λ l. unmasked (lines_in w.tree.root.name js x) ∷ l) (others xs)
 
-          by : (o : Option Occupant) → bare (with_pending js (with_masked n true (save_running v.tree o)))
-              ≡ bare (with_pending js (with_masked n true (save_running w.tree o)))
+          by : (o : Option Occupant) → one_mask (with_pending js (with_masked n true (save_running v.tree o)))
+              ≡ one_mask (with_pending js (with_masked n true (save_running w.tree o)))
           by None = joined _ _ _ _ _ _ (others w.tree.others) refl
           by (Some r) = joined _ _ _ _ _ _ (others w.tree.others)
               (ap (λ q. (saved_to w.tree r.ctx q).words) (place_bare w.tree r.name 63))
 
       line : (j : Option ℕ) → Same (poll_line v cpu o j) (poll_line w cpu o j)
       line None = untaken o
-      line (Some j) = rw (handler_bare w.tree w.tree.root.name (32 + j)) (take (handler w.tree w.tree.root.name (32 + j)))
+      line (Some j) = rw (handler_bare w.tree w.tree.root.name (32 + j)) (take (handler w.tree w.tree.root.name
+          (32 + j)))
         where
           take : (h : Option Ctx) → Same (take_line v cpu o j h) (take_line w cpu o j h)
           take None = untaken o
@@ -610,7 +626,7 @@ module _ (w : World) where
       (λ r. record { outcome = refl; tree = same_tree w.tree; cpus = refl })
 
 -- trees that differ in masks alone look alike
-pub bare_alike : (look : ℕ → ℕ → ℕ → ℕ) (t u : Tree) → bare t ≡ bare u → AlikeTrees look t u
+pub bare_alike : (look : ℕ → ℕ → ℕ → ℕ) (t u : Tree) → one_mask t ≡ one_mask u → AlikeTrees look t u
 bare_alike look t u e = record {
   nodes = ap {A = Tree} (λ x. record x { words = u.words }) e;
   words = λ g. let f = ap (λ x. x.words g) e in

@@ -37,7 +37,7 @@ use Rattle.pip_outside.specs.Outside.{AboveMiss, AlikeCpus, AlikeOn, AlikeTrees,
 use Rattle.pip_outside.specs.Outside.{HandlerMisses, HandlersMiss, LoadMisses, MemoryMisses, SaveMisses}
 use Rattle.pip_outside.specs.Outside.{StoreMisses}
 use Rattle.pip_outside.specs.Outside.{CallMisses, Lands, LinesMiss, OutsideDependsOnOutside, PollMisses, ReadsOutside}
-use Rattle.pip_outside.specs.Outside.{YieldMisses, bare}
+use Rattle.pip_outside.specs.Outside.{YieldMisses, one_mask}
 use Rattle.pip_model.specs.DeletePartition.{delete_partition}
 use Rattle.pip_model.specs.declared.call_name.MemoryCall.{MemoryCall}
 use Rattle.pip_model.specs.declared.call_name.MemoryCall.TheVariants.{AddVAddr, Collect, CountToMap, CreatePartition}
@@ -374,9 +374,10 @@ module _ (own : List ℕ) (look : ℕ → ℕ → ℕ → ℕ) (w : World) (u : 
           (refl, (λ n. ap (λ q. handler_context q (32 + j) 0 0 0) (l n)));
     }
       where
-        lined : (o p : Option Occupant) → record (bare (with_pending (filter (λ i. not (i == j)) w.tree.root.pending)
+        lined : (o p : Option Occupant) →
+            record (one_mask (with_pending (filter (λ i. not (i == j)) w.tree.root.pending)
             (with_masked w.tree.root.name true (save_running w.tree o)))) { words = (save_running v.tree p).words }
-            ≡ bare (with_pending (filter (λ i. not (i == j)) w.tree.root.pending) (with_masked w.tree.root.name true
+            ≡ one_mask (with_pending (filter (λ i. not (i == j)) w.tree.root.pending) (with_masked w.tree.root.name true
             (save_running v.tree p)))
         lined None None = refl
         lined None (Some q) = refl
@@ -481,10 +482,10 @@ outside_depends_on_outside own look w v e a m =
     let b = moved own look w v.tree.words v.cpus v.caches a.tree.words a.cpus e m in
     let from = masks_tell_nothing u e in
     let to = masks_tell_nothing v e in
-    let over : ◌≡◌ {A = World} (record u { tree = bare u.tree }) (record v { tree = bare v.tree }) =
+    let over : ◌≡◌ {A = World} (record u { tree = one_mask u.tree }) (record v { tree = one_mask v.tree }) =
     ap (λ t. record v { tree = t }) a.tree.nodes in
     let same = ap (λ x. what_happens x e) over in
-    let tree = sym from.tree ∙ ap (λ h. bare h.world.tree) same ∙ to.tree in
+    let tree = sym from.tree ∙ ap (λ h. one_mask h.world.tree) same ∙ to.tree in
     let cpus = sym from.cpus ∙ ap (λ h. h.world.cpus) same ∙ to.cpus in
     record {
       outcome = b.outcome ∙ sym from.outcome ∙ ap (λ h. h.outcome) same ∙ to.outcome;

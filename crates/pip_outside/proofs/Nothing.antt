@@ -17,7 +17,8 @@ use Rattle.pip_model.specs.declared.call_name.MemoryCall.TheVariants.{AddVAddr, 
 use Rattle.pip_model.specs.declared.call_name.MemoryCall.TheVariants.{DeletePartition, MappedInChild, Prepare}
 use Rattle.pip_model.specs.declared.call_name.MemoryCall.TheVariants.{RemoveVAddr}
 use Rattle.pip_model.specs.declared.processors.Occupant.{Occupant}
-use Rattle.pip_outside.specs.Outside.{AboveMiss, BlockMisses, ByRunner, CallMisses, ChainMisses, DeliveryMisses, EntryMisses}
+use Rattle.pip_outside.specs.Outside.{AboveMiss, BlockMisses, ByRunner, CallMisses, ChainMisses, DeliveryMisses}
+use Rattle.pip_outside.specs.Outside.{EntryMisses}
 use Rattle.pip_outside.specs.Outside.{HandlerMisses, HandlersMiss, LinesMiss, LoadMisses, MemoryMisses}
 use Rattle.pip_outside.specs.Outside.{NothingLeftOut, RunnerSaved, SaveMisses, StoreMisses}
 use Rattle.pip_outside.specs.Outside.{whole_word}

@@ -1,5 +1,6 @@
 -- What is read of a tree, and what is saved to it, where words differ in what isn't seen of them.
-use Rattle.std.proofs.Common.{◌≡◌, ℕ, zero, suc, ◌+◌, ◌-◌, ◌%◌, ◌==◌, ◌&&◌, ◌<◌, ◌≤◌, ◌⊎◌, inl, inr, Bool, true, false, cond}
+use Rattle.std.proofs.Common.{◌≡◌, ℕ, zero, suc, ◌+◌, ◌-◌, ◌%◌, ◌==◌, ◌&&◌, ◌<◌, ◌≤◌, ◌⊎◌, inl, inr, Bool, true, false}
+use Rattle.std.proofs.Common.{cond}
 use Rattle.std.proofs.Common.{List, ◌∷◌, refl, sym, ap, ap₂, ◌∙◌, subst, arith, Option, Some, None, eqb-true}
 use Rattle.std.specs.Prelude.{is_some, nat_le, nat_lt, option_map}
 use Rattle.std.proofs.lemmas.Bool.{leb-true, ltb-true}
@@ -12,7 +13,8 @@ use Rattle.pip_model.specs.Lists.{In, has}
 use Rattle.pip_model.specs.Reach.{Faulted, Place, Reached, reach, word_reached}
 use Rattle.pip_model.specs.Tree.{Tree, word_of}
 use Rattle.pip_model.proofs.OnLists.Members.{has_in, in_has}
-use Rattle.pip_outside.specs.Outside.{AlikeTrees, AlikeWord, BlockMisses, BothLand, EntryMisses, HandlerMisses, IsOneUse}
+use Rattle.pip_outside.specs.Outside.{AlikeTrees, AlikeWord, BlockMisses, BothLand, EntryMisses, HandlerMisses}
+use Rattle.pip_outside.specs.Outside.{IsOneUse}
 use Rattle.pip_outside.specs.Outside.{Lands, block_place, entry_place}
 
 -- what two handlers have in common: both are there, or none; they are the same unless the partition is one of these
@@ -114,7 +116,8 @@ module _ (own : List ℕ) (look : ℕ → ℕ → ℕ → ℕ) (t : Tree) (u : �
 
     pub handler_same : (p k : ℕ) → HandlerMisses own look t p k
         → AlikeHandlers own p (handler t p k) (handler other p k)
-    handler_same p k m = entry_same p (entry_place t p k) (λ b c. ((In p own → ⊥) → BlockMisses look (block_place t p b))
+    handler_same p k m = entry_same p (entry_place t p k) (λ b c. ((In p own → ⊥)
+        → BlockMisses look (block_place t p b))
         → AlikeHandlers own p (handler_at t p b) (handler_at other p c)) m.entry at
         (λ x y i b n. both i (handler_at t p (block_at t p (Some x))) (handler_at other p (block_at t p (Some y)))
         (handled t p (Some x) ∙ b.block ∙ sym (handled other p (Some y)))) m.block

@@ -76,19 +76,19 @@ needed_few x v = go (has_table x v)
     go false = omega arith
 
 module _ (own : List ℕ) (look : ℕ → ℕ → ℕ → ℕ) (s : Sight) (is : IsSight own look s) where
-  entry_misses : (t : Tree) (p : ℕ) (q : Reached) → S.entry_misses s t p q ≡ true → EntryMisses own look t p q
+  entry_misses : (t : Tree) (p : ℕ) (q : Reached) → S.entry_passes s t p q ≡ true → EntryMisses own look t p q
   entry_misses t p (Place g i) e = is.entry t p g i e
   entry_misses t p (Faulted f) e = tt
 
-  block_misses : (q : Reached) → S.block_misses s q ≡ true → BlockMisses look q
+  block_misses : (q : Reached) → S.block_passes s q ≡ true → BlockMisses look q
   block_misses (Place g i) e = λ j l k. is.seen g j (all_are (λ j. s.seen g j) 17 i e j l k)
   block_misses (Faulted f) e = tt
 
-  lands : (q : Reached) → S.lands s q ≡ true → Lands look q
+  lands : (q : Reached) → S.block_blind s q ≡ true → Lands look q
   lands (Place g i) e = λ j l k. is.blind g j (all_are (λ j. s.blind g j) 17 i e j l k)
   lands (Faulted f) e = tt
 
-  handler_misses : (t : Tree) (p k : ℕ) → S.handler_misses own s t p k ≡ true → HandlerMisses own look t p k
+  handler_misses : (t : Tree) (p k : ℕ) → S.handler_passes own s t p k ≡ true → HandlerMisses own look t p k
   handler_misses t p k e =
       let h = both _ _ e in
       record {
@@ -99,7 +99,7 @@ module _ (own : List ℕ) (look : ℕ → ℕ → ℕ → ℕ) (s : Sight) (is :
         ];
       }
 
-  handlers_miss : (w : World) (k : ℕ) (qs : List Node) → S.handlers_miss own s w k qs ≡ true
+  handlers_miss : (w : World) (k : ℕ) (qs : List Node) → S.handlers_pass own s w k qs ≡ true
       → HandlersMiss own look w k qs
   handlers_miss w k [] e = tt
   handlers_miss w k (q ∷ qs) e =
@@ -111,11 +111,11 @@ module _ (own : List ℕ) (look : ℕ → ℕ → ℕ → ℕ) (s : Sight) (is :
         handlers_miss w k qs h.1,
       )
 
-  above_miss : (w : World) (k : ℕ) (qs : List Node) → S.above_miss own s w k qs ≡ true → AboveMiss own look w k qs
+  above_miss : (w : World) (k : ℕ) (qs : List Node) → S.above_pass own s w k qs ≡ true → AboveMiss own look w k qs
   above_miss w k [] e = tt
   above_miss w k (q ∷ qs) e = handlers_miss w k qs e
 
-  save_misses : (t : Tree) (p k : ℕ) → S.save_misses own s t p k ≡ true → SaveMisses own look t p k
+  save_misses : (t : Tree) (p k : ℕ) → S.save_passes own s t p k ≡ true → SaveMisses own look t p k
   save_misses t p k e =
       let h = both _ _ e in
       record {
@@ -126,22 +126,22 @@ module _ (own : List ℕ) (look : ℕ → ℕ → ℕ → ℕ) (s : Sight) (is :
         ];
       }
 
-  delivery_misses : (w : World) (p k : ℕ) → S.delivery_misses own s w p k ≡ true → DeliveryMisses own look w p k
+  delivery_misses : (w : World) (p k : ℕ) → S.delivery_passes own s w p k ≡ true → DeliveryMisses own look w p k
   delivery_misses w p k e =
       let h = both _ _ e in
       record { handlers = above_miss w k (chain w.tree p) h.0; save = save_misses w.tree p 63 h.1 }
 
-  load_misses : (w : World) (p : ℕ) (q : Reached) → S.load_misses own s w p q ≡ true → LoadMisses own look w p q
+  load_misses : (w : World) (p : ℕ) (q : Reached) → S.load_passes own s w p q ≡ true → LoadMisses own look w p q
   load_misses w p (Place g i) e = is.seen g i e
   load_misses w p (Faulted f) e = delivery_misses w p (fault_vector f) e
 
-  store_misses : (w : World) (p va : ℕ) (z : Size) (q : Reached) → S.store_misses own s w p z q ≡ true
+  store_misses : (w : World) (p va : ℕ) (z : Size) (q : Reached) → S.store_passes own s w p z q ≡ true
       → StoreMisses own look w p va z q
   store_misses w p va z (Place g i) e = is.stores va z g i e
   store_misses w p va z (Faulted f) e = delivery_misses w p (fault_vector f) e
 
   -- all pages of a chain but the last
-  chain_misses : (t : Tree) (p k n : ℕ) (seen : List ℕ) (a : ℕ) → n ≤ suc k → S.chain_misses s t p k a ≡ true
+  chain_misses : (t : Tree) (p k n : ℕ) (seen : List ℕ) (a : ℕ) → n ≤ suc k → S.chain_passes s t p k a ≡ true
       → ChainMisses look t p n seen a
   chain_misses t p k zero seen a l e = tt
   chain_misses t p k (suc zero) seen a l e = tt
@@ -150,7 +150,7 @@ module _ (own : List ℕ) (look : ℕ → ℕ → ℕ → ℕ) (s : Sight) (is :
       let h = both _ _ e in
       (is.seen _ _ h.0, chain_misses t p k (suc n) (a ∷ seen) (next_in_chain t p a) (omega (arith, l)) h.1)
 
-  memory_misses : (t : Tree) (p : ℕ) (a : Five) (c : MemoryCall) → S.memory_misses s t p a c ≡ true
+  memory_misses : (t : Tree) (p : ℕ) (a : Five) (c : MemoryCall) → S.memory_passes s t p a c ≡ true
       → MemoryMisses look t p a c
   memory_misses t p a CreatePartition e = tt
   memory_misses t p a DeletePartition e = tt
@@ -162,14 +162,14 @@ module _ (own : List ℕ) (look : ℕ → ℕ → ℕ → ℕ) (s : Sight) (is :
   memory_misses t p a RemoveVAddr e = tt
   memory_misses t p a MappedInChild e = tt
 
-  target_misses : (t : Tree) (k : ℕ) (o : Option Node) → S.target_misses own s t k o ≡ true → (x : Node)
+  target_misses : (t : Tree) (k : ℕ) (o : Option Node) → S.target_passes own s t k o ≡ true → (x : Node)
       → o ≡ Some x
       → HandlerMisses own look t x.name k
   target_misses t k None e x q = cc
   target_misses t k (Some y) e x q = let d : y ≡ x = cc in
       subst (λ z. HandlerMisses own look t z.name k) d (handler_misses t y.name k e)
 
-  call_misses : (w : World) (p : ℕ) (a : Five) (c : CallName) → S.call_misses own s w.tree p a c ≡ true
+  call_misses : (w : World) (p : ℕ) (a : Five) (c : CallName) → S.call_passes own s w.tree p a c ≡ true
       → CallMisses own look w p a c
   call_misses w p a (OnMemory c) e = memory_misses w.tree p a c e
   call_misses w p a Yields e =
@@ -184,34 +184,34 @@ module _ (own : List ℕ) (look : ℕ → ℕ → ℕ → ℕ) (s : Sight) (is :
   call_misses w p a (Masks b) e = tt
   call_misses w p a Unknown e = tt
 
-  lines_miss : (t : Tree) (js : List ℕ) → S.lines_miss own s t js ≡ true → LinesMiss own look t js
+  lines_miss : (t : Tree) (js : List ℕ) → S.lines_pass own s t js ≡ true → LinesMiss own look t js
   lines_miss t [] e = tt
   lines_miss t (j ∷ js) e =
       let h = both _ _ e in (handler_misses t t.root.name (32 + j) h.0, lines_miss t js h.1)
 
-  runner_saved : (t : Tree) (o : Option Occupant) → S.if_one_runs o (λ r. S.save_misses own s t r.name 63) ≡ true
+  runner_saved : (t : Tree) (o : Option Occupant) → S.if_runs o (λ r. S.save_passes own s t r.name 63) ≡ true
       → RunnerSaved own look t o
   runner_saved t None e = tt
   runner_saved t (Some r) e = save_misses t r.name 63 e
 
   by_runner : (o : Option Occupant) (P : Occupant → Type 0) (f : Occupant → Bool) → ((r : Occupant) → f r ≡ true → P r)
-      → S.if_one_runs o f ≡ true → ByRunner o P
+      → S.if_runs o f ≡ true → ByRunner o P
   by_runner None P f g e = tt
   by_runner (Some r) P f g e = g r e
 
-  pub reads : (w : World) (e : Event) → S.reads_outside own s w e ≡ true → ReadsOutside own look w e
+  pub reads : (w : World) (e : Event) → S.event_passes own s w e ≡ true → ReadsOutside own look w e
   reads w (E.Load cpu va z) e = by_runner (runs_on w cpu) _
-      (λ r. S.load_misses own s w r.name (reach w.tree r.name va Load z)) (λ r. load_misses w r.name _) e
+      (λ r. S.load_passes own s w r.name (reach w.tree r.name va Load z)) (λ r. load_misses w r.name _) e
   reads w (E.Store cpu va z x) e = by_runner (runs_on w cpu) _
-      (λ r. S.store_misses own s w r.name z (reach w.tree r.name va Store z)) (λ r. store_misses w r.name va z _) e
+      (λ r. S.store_passes own s w r.name z (reach w.tree r.name va Store z)) (λ r. store_misses w r.name va z _) e
   reads w (E.Fetch cpu) e = by_runner (runs_on w cpu) _
-      (λ r. not (has own r.name) && S.load_misses own s w r.name (reach w.tree r.name r.ctx.pc Fetch Word))
+      (λ r. not (has own r.name) && S.load_passes own s w r.name (reach w.tree r.name r.ctx.pc Fetch Word))
       (λ r f. let h = both _ _ f in
       ((λ i. not_both _ (off _ h.0) (in_has r.name own i)), load_misses w r.name _ h.1)) e
-  reads w (E.Trap cpu k a b) e = by_runner (runs_on w cpu) _ (λ r. S.delivery_misses own s w r.name k)
+  reads w (E.Trap cpu k a b) e = by_runner (runs_on w cpu) _ (λ r. S.delivery_passes own s w r.name k)
       (λ r. delivery_misses w r.name k) e
   reads w (E.Call cpu number a) e = by_runner (runs_on w cpu) _
-      (λ r. S.call_misses own s w.tree r.name a (call_named number)) (λ r. call_misses w r.name a (call_named
+      (λ r. S.call_passes own s w.tree r.name a (call_named number)) (λ r. call_misses w r.name a (call_named
       number)) e
   reads w (E.Raise j) e = tt
   reads w (E.Poll cpu) e =
@@ -219,7 +219,7 @@ module _ (own : List ℕ) (look : ℕ → ℕ → ℕ → ℕ) (s : Sight) (is :
       record { lines = lines_miss w.tree w.tree.root.pending h.0; save = runner_saved w.tree (runs_on w cpu) h.1 }
   reads w (E.SetContext cpu c) e = tt
 
-  pub all_read : (es : List Event) (w : World) → S.all_read_outside own s w es ≡ true → AllReadOutside own look
+  pub all_read : (es : List Event) (w : World) → S.events_pass own s w es ≡ true → AllReadOutside own look
       w es
   all_read [] w e = tt
   all_read (x ∷ es) w e = let h = both _ _ e in (reads w x h.0, all_read es (event w x).world h.1)

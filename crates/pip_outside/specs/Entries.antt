@@ -10,13 +10,13 @@ use Rattle.pip_model.specs.Lists.{In, has}
 use Rattle.pip_model.specs.Reach.{Faulted, Place, Reached}
 use Rattle.pip_model.specs.Tree.{Row, Tree, hidden, node}
 use Rattle.pip_outside.specs.Outside.{EntryMisses, seen_but}
-use Rattle.pip_outside.specs.Sights.{IsSight, Sight, all_from}
+use Rattle.pip_outside.specs.Sights.{IsSight, Sight, each_from}
 
--- the class of a word x by which a partition has a block, by where this can be saved to: nowhere; in words that are left
--- out; or elsewhere, and then x is alone
+-- the class of a word x by which a partition has a block, by where this can be saved to: nowhere; in words that are
+-- left out; or elsewhere, and then x is alone
 abbrev pub place_class : (ℕ → ℕ → Bool) → ℕ → Reached → ℕ
 place_class blind x (Faulted f) = 1
-place_class blind x (Place g i) = if all_from (λ j. blind g j) 17 i then 2 else 3 + x
+place_class blind x (Place g i) = if each_from (λ j. blind g j) 17 i then 2 else 3 + x
 
 -- that of any word: there is one more, of those by which it has none
 abbrev pub block_class : (ℕ → ℕ → Bool) → Tree → ℕ → ℕ → Option ℕ → ℕ
@@ -49,18 +49,19 @@ EntriesHaveClasses = (own : List ℕ) (blind : ℕ → ℕ → Bool) (entries : 
 abbrev pub rows_tree : List Row → Tree
 rows_tree rows = record { frames = 0; root = record nobody { rows = rows }; others = []; words = λ g. None }
 
--- two rows are one, and two lists of rows
+-- two rows are one
 abbrev pub row_same : Row → Row → Bool
 row_same r s = r.at == s.at && (r.frame == s.frame && r.rights == s.rights)
 
+-- two lists of rows are
 abbrev pub rows_same : List Row → List Row → Bool
 rows_same [] [] = true
 rows_same (r ∷ rs) (s ∷ ss) = row_same r s && rows_same rs ss
 rows_same _ _ = false
 
 -- p has these rows, and none of their pages is hidden
-abbrev pub fits : Tree → ℕ → List Row → Bool
-fits t p rows =
+abbrev pub fits_rows : Tree → ℕ → List Row → Bool
+fits_rows t p rows =
     rows_same (node t p).rows rows && not (list_any (λ r. hidden t r.frame || hidden (rows_tree rows) r.frame) rows)
 
 -- these words are left out: but for entries
@@ -75,12 +76,12 @@ class_look blind kept = seen_by (free_of blind kept)
 -- the test of the entry of p there
 abbrev pub entry_fits : List ℕ → (ℕ → ℕ → Bool) → Tree → ℕ → ℕ → ℕ → Option (List Row) → Bool
 entry_fits own blind t p g i None = not (blind g i)
-entry_fits own blind t p g i (Some rows) = has own p && fits t p rows
+entry_fits own blind t p g i (Some rows) = has own p && fits_rows t p rows
 
 -- a store leaves nothing of what was there
-abbrev pub is_whole : Size → Bool
-is_whole Word = true
-is_whole Byte = false
+abbrev pub is_of_word : Size → Bool
+is_of_word Word = true
+is_of_word Byte = false
 
 -- the tests of words, if some are left out, and some are entries
 abbrev pub class_sight : List ℕ → (ℕ → ℕ → Bool) → (ℕ → ℕ → Option (List Row)) → Sight
@@ -88,7 +89,7 @@ class_sight own blind kept = record {
   seen = λ g i. is_none (kept g i) && not (blind g i);
   blind = free_of blind kept;
   entry = λ t p g i. entry_fits own blind t p g i (kept g i);
-  stores = λ z g i. is_whole z || is_none (kept g i);
+  stores = λ z g i. is_of_word z || is_none (kept g i);
 }
 
 -- they say so

@@ -1,6 +1,7 @@
 -- What partitions outside of others depend on: the tree, what runs, and the words that they read. What isn't seen of
 -- words, and the registers of some partitions, have no effect on an event that doesn't read them.
-use Rattle.std.specs.Prelude.{◌≡◌, ℕ, zero, suc, ◌+◌, ◌*◌, ◌<◌, ◌≤◌, nat_lt, Bool, true, false, List, [], ◌∷◌, map, Option}
+use Rattle.std.specs.Prelude.{◌≡◌, ℕ, zero, suc, ◌+◌, ◌*◌, ◌<◌, ◌≤◌, nat_lt, Bool, true, false, List, [], ◌∷◌, map}
+use Rattle.std.specs.Prelude.{Option}
 use Rattle.std.specs.Prelude.{Some, None, is_some, ◌⊎◌, if◌then◌else◌}
 use Rattle.pip_base.specs.declared.types.Access.TheVariants.{Load, Store, Fetch}
 use Rattle.pip_base.specs.declared.types.Size.{Size}
@@ -50,12 +51,12 @@ abbrev pub unmasked : Node → Node
 unmasked x = record x { masked = false }
 
 -- a tree with the mask of the root alone: no event reads another
-abbrev pub bare : Tree → Tree
-bare t = record t { others = map unmasked t.others }
+abbrev pub one_mask : Tree → Tree
+one_mask t = record t { others = map unmasked t.others }
 
 -- two trees that differ in the masks of partitions other than the root, and in what isn't seen of words, alone
 pub record AlikeTrees (look : ℕ → ℕ → ℕ → ℕ) (t u : Tree) : Type 0 where
-  pub nodes : record (bare t) { words = u.words } ≡ bare u
+  pub nodes : record (one_mask t) { words = u.words } ≡ one_mask u
   pub words : (g : ℕ) → AlikeWord look g (t.words g) (u.words g)
 
 -- two worlds that look alike from outside of these partitions. Caches may differ
@@ -198,8 +199,8 @@ abbrev pub ByRunner : Option Occupant → (Occupant → Type 0) → Type 0
 ByRunner None P = Unit {0}
 ByRunner (Some r) P = P r
 
--- an event reads nothing of words but what is seen, but by a partition of these that is entered. Nothing is seen of what
--- is saved of these partitions. The pc of a fetch is that of a partition outside
+-- an event reads nothing of words but what is seen, but by a partition of these that is entered. Nothing is seen of
+-- what is saved of these partitions. The pc of a fetch is that of a partition outside
 abbrev pub ReadsOutside : List ℕ → (ℕ → ℕ → ℕ → ℕ) → World → Event → Type 0
 ReadsOutside own look w (E.Load cpu va z) =
     ByRunner (runs_on w cpu) (λ r. LoadMisses own look w r.name (reach w.tree r.name va Load z))

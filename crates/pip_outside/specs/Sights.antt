@@ -20,14 +20,15 @@ use Rattle.pip_model.specs.declared.call_name.CallName.TheVariants.{Masks, OnMem
 use Rattle.pip_model.specs.declared.call_name.MemoryCall.{MemoryCall}
 use Rattle.pip_model.specs.declared.call_name.MemoryCall.TheVariants.{Prepare}
 use Rattle.pip_model.specs.declared.processors.Occupant.{Occupant}
-use Rattle.pip_outside.specs.Outside.{AllSeen, EntryMisses, NoneSeen, ReadsOutside, StoresSeen, block_place, entry_place}
+use Rattle.pip_outside.specs.Outside.{AllSeen, EntryMisses, NoneSeen, ReadsOutside, StoresSeen, block_place}
+use Rattle.pip_outside.specs.Outside.{entry_place}
 
 -- ---- words
 
 -- a test of n numbers from i on
-abbrev pub all_from : (ℕ → Bool) → ℕ → ℕ → Bool
-all_from f zero i = true
-all_from f (suc n) i = f i && all_from f n (i + 1)
+abbrev pub each_from : (ℕ → Bool) → ℕ → ℕ → Bool
+each_from f zero i = true
+each_from f (suc n) i = f i && each_from f n (i + 1)
 
 -- by which tests a search says that nothing outside reads what isn't seen of words: all of a word is seen; nothing is;
 -- the entry of a partition is read by it alone; what is seen of a word after a store depends on what was before
@@ -38,120 +39,120 @@ pub record Sight : Type 0 where
   pub stores : Size → ℕ → ℕ → Bool
 
 -- the entry of p that is reached
-abbrev pub entry_misses : Sight → Tree → ℕ → Reached → Bool
-entry_misses s t p (Place g i) = s.entry t p g i
-entry_misses s t p (Faulted f) = true
+abbrev pub entry_passes : Sight → Tree → ℕ → Reached → Bool
+entry_passes s t p (Place g i) = s.entry t p g i
+entry_passes s t p (Faulted f) = true
 
 -- no word of a block is
-abbrev pub block_misses : Sight → Reached → Bool
-block_misses s (Place g i) = all_from (λ j. s.seen g j) 17 i
-block_misses s (Faulted f) = true
+abbrev pub block_passes : Sight → Reached → Bool
+block_passes s (Place g i) = each_from (λ j. s.seen g j) 17 i
+block_passes s (Faulted f) = true
 
 -- each word of a block is
-abbrev pub lands : Sight → Reached → Bool
-lands s (Place g i) = all_from (λ j. s.blind g j) 17 i
-lands s (Faulted f) = true
+abbrev pub block_blind : Sight → Reached → Bool
+block_blind s (Place g i) = each_from (λ j. s.blind g j) 17 i
+block_blind s (Faulted f) = true
 
 -- ---- handlers, and saves
 
 -- p's entry for vector k, and its block unless p is one of these partitions
-abbrev pub handler_misses : List ℕ → Sight → Tree → ℕ → ℕ → Bool
-handler_misses own s t p k =
-    entry_misses s t p (entry_place t p k) && (has own p || block_misses s (block_place t p (block t p k)))
+abbrev pub handler_passes : List ℕ → Sight → Tree → ℕ → ℕ → Bool
+handler_passes own s t p k =
+    entry_passes s t p (entry_place t p k) && (has own p || block_passes s (block_place t p (block t p k)))
 
 -- those of partitions of a list that don't run
-abbrev pub handlers_miss : List ℕ → Sight → World → ℕ → List Node → Bool
-handlers_miss own s w k [] = true
-handlers_miss own s w k (q ∷ qs) =
-    (has (running w) q.name || handler_misses own s w.tree q.name k) && handlers_miss own s w k qs
+abbrev pub handlers_pass : List ℕ → Sight → World → ℕ → List Node → Bool
+handlers_pass own s w k [] = true
+handlers_pass own s w k (q ∷ qs) =
+    (has (running w) q.name || handler_passes own s w.tree q.name k) && handlers_pass own s w k qs
 
 -- and above the first of a list
-abbrev pub above_miss : List ℕ → Sight → World → ℕ → List Node → Bool
-above_miss own s w k [] = true
-above_miss own s w k (p ∷ qs) = handlers_miss own s w k qs
+abbrev pub above_pass : List ℕ → Sight → World → ℕ → List Node → Bool
+above_pass own s w k [] = true
+above_pass own s w k (p ∷ qs) = handlers_pass own s w k qs
 
 -- a save of p in its block for vector k
-abbrev pub save_misses : List ℕ → Sight → Tree → ℕ → ℕ → Bool
-save_misses own s t p k =
-    entry_misses s t p (entry_place t p k) && (not (has own p) || lands s (save_place t p k))
+abbrev pub save_passes : List ℕ → Sight → Tree → ℕ → ℕ → Bool
+save_passes own s t p k =
+    entry_passes s t p (entry_place t p k) && (not (has own p) || block_blind s (save_place t p k))
 
 -- a vector that is delivered for what p does
-abbrev pub delivery_misses : List ℕ → Sight → World → ℕ → ℕ → Bool
-delivery_misses own s w p k =
-    above_miss own s w k (chain w.tree p) && save_misses own s w.tree p 63
+abbrev pub delivery_passes : List ℕ → Sight → World → ℕ → ℕ → Bool
+delivery_passes own s w p k =
+    above_pass own s w k (chain w.tree p) && save_passes own s w.tree p 63
 
 -- ---- events
 
 -- a load or a fetch, by what it reaches
-abbrev pub load_misses : List ℕ → Sight → World → ℕ → Reached → Bool
-load_misses own s w p (Place g i) = s.seen g i
-load_misses own s w p (Faulted f) = delivery_misses own s w p (fault_vector f)
+abbrev pub load_passes : List ℕ → Sight → World → ℕ → Reached → Bool
+load_passes own s w p (Place g i) = s.seen g i
+load_passes own s w p (Faulted f) = delivery_passes own s w p (fault_vector f)
 
 -- a store, by what it reaches
-abbrev pub store_misses : List ℕ → Sight → World → ℕ → Size → Reached → Bool
-store_misses own s w p z (Place g i) = s.stores z g i
-store_misses own s w p z (Faulted f) = delivery_misses own s w p (fault_vector f)
+abbrev pub store_passes : List ℕ → Sight → World → ℕ → Size → Reached → Bool
+store_passes own s w p z (Place g i) = s.stores z g i
+store_passes own s w p z (Faulted f) = delivery_passes own s w p (fault_vector f)
 
 -- the first pages of a chain from an address on
-abbrev pub chain_misses : Sight → Tree → ℕ → ℕ → ℕ → Bool
-chain_misses s t p zero a = true
-chain_misses s t p (suc k) a =
-    s.seen (page_of t p a) 0 && chain_misses s t p k (next_in_chain t p a)
+abbrev pub chain_passes : Sight → Tree → ℕ → ℕ → ℕ → Bool
+chain_passes s t p zero a = true
+chain_passes s t p (suc k) a =
+    s.seen (page_of t p a) 0 && chain_passes s t p k (next_in_chain t p a)
 
 -- a call on memory. A chain has four pages at most, and the last isn't looked at
-abbrev pub memory_misses : Sight → Tree → ℕ → Five → MemoryCall → Bool
-memory_misses s t p a Prepare = chain_misses s t p 3 a.x2
-memory_misses s t p a _ = true
+abbrev pub memory_passes : Sight → Tree → ℕ → Five → MemoryCall → Bool
+memory_passes s t p a Prepare = chain_passes s t p 3 a.x2
+memory_passes s t p a _ = true
 
 -- the target of a yield, if there is one
-abbrev pub target_misses : List ℕ → Sight → Tree → ℕ → Option Node → Bool
-target_misses own s t k None = true
-target_misses own s t k (Some x) = handler_misses own s t x.name k
+abbrev pub target_passes : List ℕ → Sight → Tree → ℕ → Option Node → Bool
+target_passes own s t k None = true
+target_passes own s t k (Some x) = handler_passes own s t x.name k
 
 -- a yield
-abbrev pub yield_misses : List ℕ → Sight → Tree → ℕ → Five → Bool
-yield_misses own s t p a = target_misses own s t a.x1 (target_node t p a.x0)
-    && (not (nat_lt a.x2 256) || save_misses own s t p a.x2)
+abbrev pub yield_passes : List ℕ → Sight → Tree → ℕ → Five → Bool
+yield_passes own s t p a = target_passes own s t a.x1 (target_node t p a.x0)
+    && (not (nat_lt a.x2 256) || save_passes own s t p a.x2)
 
 -- a call
-abbrev pub call_misses : List ℕ → Sight → Tree → ℕ → Five → CallName → Bool
-call_misses own s t p a (OnMemory c) = memory_misses s t p a c
-call_misses own s t p a Yields = yield_misses own s t p a
-call_misses own s t p a (Masks b) = true
-call_misses own s t p a Unknown = true
+abbrev pub call_passes : List ℕ → Sight → Tree → ℕ → Five → CallName → Bool
+call_passes own s t p a (OnMemory c) = memory_passes s t p a c
+call_passes own s t p a Yields = yield_passes own s t p a
+call_passes own s t p a (Masks b) = true
+call_passes own s t p a Unknown = true
 
 -- the root's handlers of these lines
-abbrev pub lines_miss : List ℕ → Sight → Tree → List ℕ → Bool
-lines_miss own s t [] = true
-lines_miss own s t (j ∷ js) = handler_misses own s t t.root.name (32 + j) && lines_miss own s t js
+abbrev pub lines_pass : List ℕ → Sight → Tree → List ℕ → Bool
+lines_pass own s t [] = true
+lines_pass own s t (j ∷ js) = handler_passes own s t t.root.name (32 + j) && lines_pass own s t js
 
 -- by what runs on a processor, if anything does
-abbrev pub if_one_runs : Option Occupant → (Occupant → Bool) → Bool
-if_one_runs None f = true
-if_one_runs (Some r) f = f r
+abbrev pub if_runs : Option Occupant → (Occupant → Bool) → Bool
+if_runs None f = true
+if_runs (Some r) f = f r
 
 -- an event reads no word that is left out
-abbrev pub reads_outside : List ℕ → Sight → World → Event → Bool
-reads_outside own s w (E.Load cpu va z) =
-    if_one_runs (runs_on w cpu) (λ r. load_misses own s w r.name (reach w.tree r.name va Load z))
-reads_outside own s w (E.Store cpu va z x) =
-    if_one_runs (runs_on w cpu) (λ r. store_misses own s w r.name z (reach w.tree r.name va Store z))
-reads_outside own s w (E.Fetch cpu) = if_one_runs (runs_on w cpu)
-    (λ r. not (has own r.name) && load_misses own s w r.name (reach w.tree r.name r.ctx.pc Fetch Word))
-reads_outside own s w (E.Trap cpu k a b) =
-    if_one_runs (runs_on w cpu) (λ r. delivery_misses own s w r.name k)
-reads_outside own s w (E.Call cpu number a) =
-    if_one_runs (runs_on w cpu) (λ r. call_misses own s w.tree r.name a (call_named number))
-reads_outside own s w (E.Raise j) = true
-reads_outside own s w (E.Poll cpu) = lines_miss own s w.tree w.tree.root.pending
-    && if_one_runs (runs_on w cpu) (λ r. save_misses own s w.tree r.name 63)
-reads_outside own s w (E.SetContext cpu c) = true
+abbrev pub event_passes : List ℕ → Sight → World → Event → Bool
+event_passes own s w (E.Load cpu va z) =
+    if_runs (runs_on w cpu) (λ r. load_passes own s w r.name (reach w.tree r.name va Load z))
+event_passes own s w (E.Store cpu va z x) =
+    if_runs (runs_on w cpu) (λ r. store_passes own s w r.name z (reach w.tree r.name va Store z))
+event_passes own s w (E.Fetch cpu) = if_runs (runs_on w cpu)
+    (λ r. not (has own r.name) && load_passes own s w r.name (reach w.tree r.name r.ctx.pc Fetch Word))
+event_passes own s w (E.Trap cpu k a b) =
+    if_runs (runs_on w cpu) (λ r. delivery_passes own s w r.name k)
+event_passes own s w (E.Call cpu number a) =
+    if_runs (runs_on w cpu) (λ r. call_passes own s w.tree r.name a (call_named number))
+event_passes own s w (E.Raise j) = true
+event_passes own s w (E.Poll cpu) = lines_pass own s w.tree w.tree.root.pending
+    && if_runs (runs_on w cpu) (λ r. save_passes own s w.tree r.name 63)
+event_passes own s w (E.SetContext cpu c) = true
 
 -- no event of a list, each at its moment, does
-abbrev pub all_read_outside : List ℕ → Sight → World → List Event → Bool
-all_read_outside own s w [] = true
-all_read_outside own s w (e ∷ es) =
-    reads_outside own s w e && all_read_outside own s (event w e).world es
+abbrev pub events_pass : List ℕ → Sight → World → List Event → Bool
+events_pass own s w [] = true
+events_pass own s w (e ∷ es) =
+    event_passes own s w e && events_pass own s (event w e).world es
 
 -- ---- what the tests say
 
@@ -165,4 +166,4 @@ pub record IsSight (own : List ℕ) (look : ℕ → ℕ → ℕ → ℕ) (s : Si
 -- an event that passes reads nothing else
 abbrev pub SightsPass : Type 0
 SightsPass = (own : List ℕ) (look : ℕ → ℕ → ℕ → ℕ) (s : Sight) (w : World) (e : Event) → IsSight own look s
-    → reads_outside own s w e ≡ true → ReadsOutside own look w e
+    → event_passes own s w e ≡ true → ReadsOutside own look w e

@@ -40,8 +40,9 @@ StaysThere (O.Switched p q k) = q ≡ p
 StaysThere (O.Parked p k) = ⊥
 StaysThere O.Idle = ⊥
 
--- an event of one of these partitions stays inside: a load or a fetch that is answered, a store that changes nothing that
--- is seen, a context that is set; a call that is replied to, or a yield to itself, after which the tree looks as before
+-- an event of one of these partitions stays inside: a load or a fetch that is answered, a store that changes nothing
+-- that is seen, a context that is set; a call that is replied to, or a yield to itself, after which the tree looks as
+-- before
 abbrev pub IsUnseen : List ℕ → (ℕ → ℕ → ℕ → ℕ) → World → Event → Type 0
 IsUnseen own look w (E.Load cpu va z) =
     ByOneOf own (runs_on w cpu) (λ r. Answers (reach w.tree r.name va Load z))

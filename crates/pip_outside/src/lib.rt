@@ -1,5 +1,5 @@
-//! What partitions outside depend on in a partition of whose pages they read nothing but what is seen. The functions here compute nothing:
-//! each is a law, which its contract says.
+//! What partitions outside depend on in a partition of whose words they read nothing but what is seen. The functions
+//! here compute nothing: each is a law, which its contract says.
 #![tactic(auto)]
 
 ghost use Rattle.pip_outside.specs.Entries.{ClassesAreSights, EntriesHaveClasses};
