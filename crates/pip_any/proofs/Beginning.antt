@@ -20,55 +20,55 @@ use Rattle.pip_outside.proofs.Turning.{turns_depend_on_outside}
 use Rattle.pip_any.specs.Begins.{ImagesLookAlike, StepsDependOnOutside}
 
 pub images_look_alike : ImagesLookAlike
-images_look_alike own blind i j f c h =
-    subst (λ n. Alike own blind (image_world i) (boot_world_with (image_word j.frames j.pages) n j.cpus)) f
-    (subst (λ n. Alike own blind (image_world i) (boot_world_with (image_word j.frames j.pages) i.frames n)) c
+images_look_alike own look i j f c h =
+    subst (λ n. Alike own look (image_world i) (boot_world_with (image_word j.frames j.pages) n j.cpus)) f
+    (subst (λ n. Alike own look (image_world i) (boot_world_with (image_word j.frames j.pages) i.frames n)) c
     (record {
       tree = record { nodes = refl; words = λ g. page g (nat_le (first_user i.frames) g && nat_lt g i.frames) };
       cpus = cpus_alike_same own (image_world i).cpus;
     }))
   where
-    page : (g : ℕ) (b : Bool) → AlikeWord blind g (cond b (Some (image_word i.frames i.pages g)) None)
+    page : (g : ℕ) (b : Bool) → AlikeWord look g (cond b (Some (image_word i.frames i.pages g)) None)
         (cond b (Some (image_word j.frames j.pages g)) None)
-    page g true = record { there = refl; words = λ k n. h g k n }
-    page g false = record { there = refl; words = λ k n. refl }
+    page g true = record { there = refl; words = λ k. h g k }
+    page g false = record { there = refl; words = λ k. refl }
 
 -- a line is raised in both
-pub raised_alike : (own : List ℕ) (blind : ℕ → ℕ → Bool) (w v : World) (j : ℕ) → Alike own blind w v
-    → Alike own blind (world_of w (E.Raise j)) (world_of v (E.Raise j))
-raised_alike own blind w v j a = (outside_depends_on_outside own blind w v (E.Raise j) a tt).world
+pub raised_alike : (own : List ℕ) (look : ℕ → ℕ → ℕ → ℕ) (w v : World) (j : ℕ) → Alike own look w v
+    → Alike own look (world_of w (E.Raise j)) (world_of v (E.Raise j))
+raised_alike own look w v j a = (outside_depends_on_outside own look w v (E.Raise j) a tt).world
 
-raises_alike : (own : List ℕ) (blind : ℕ → ℕ → Bool) (ps : List Plan) (t : ℕ) (w v : World) → Alike own blind w v
-    → Alike own blind (after_acts w (raises ps t)) (after_acts v (raises ps t))
-raises_alike own blind [] t w v a = a
-raises_alike own blind (p ∷ ps) t w v a = by (is_due p t) (λ x y. raises_alike own blind ps t x y)
+raises_alike : (own : List ℕ) (look : ℕ → ℕ → ℕ → ℕ) (ps : List Plan) (t : ℕ) (w v : World) → Alike own look w v
+    → Alike own look (after_acts w (raises ps t)) (after_acts v (raises ps t))
+raises_alike own look [] t w v a = a
+raises_alike own look (p ∷ ps) t w v a = by (is_due p t) (λ x y. raises_alike own look ps t x y)
   where
-    by : (b : Bool) → ((x y : World) → Alike own blind x y
-        → Alike own blind (after_acts x (raises ps t)) (after_acts y (raises ps t)))
-        → Alike own blind (after_acts w (cond b (Makes (E.Raise p.line) ∷ raises ps t) (raises ps t)))
+    by : (b : Bool) → ((x y : World) → Alike own look x y
+        → Alike own look (after_acts x (raises ps t)) (after_acts y (raises ps t)))
+        → Alike own look (after_acts w (cond b (Makes (E.Raise p.line) ∷ raises ps t) (raises ps t)))
         (after_acts v (cond b (Makes (E.Raise p.line) ∷ raises ps t) (raises ps t)))
-    by true f = f _ _ (raised_alike own blind w v p.line a)
+    by true f = f _ _ (raised_alike own look w v p.line a)
     by false f = f w v a
 
 pub steps_depend_on_outside : StepsDependOnOutside
-steps_depend_on_outside own blind w v plans seed c zero t a m = (refl, a)
-steps_depend_on_outside own blind w v plans seed c (suc n) t a m =
+steps_depend_on_outside own look w v plans seed c zero t a m = (refl, a)
+steps_depend_on_outside own look w v plans seed c (suc n) t a m =
     let cpu : ℕ = schedule seed c t in
     let rs : List Act = raises plans t in
     let w' : World = after_acts w rs in
     let v' : World = after_acts v rs in
-    let one : IsOneTurn own blind cpu t w' v' =
-    turns_depend_on_outside own blind w' v' cpu t (raises_alike own blind plans t w v a) m.0 in
+    let one : IsOneTurn own look cpu t w' v' =
+    turns_depend_on_outside own look w' v' cpu t (raises_alike own look plans t w v a) m.0 in
     let st : List Act = step w plans cpu t in
     let tt' : List Act = step v plans cpu t in
     let same : st ≡ tt' = ap (λ l. rs ++ l) one.acts in
-    let next : Alike own blind (after_acts w st) (after_acts v tt') =
-    subst (λ x. Alike own blind x (after_acts v tt')) (sym (after-append w rs (turn w' cpu t)))
-    (subst (Alike own blind (after_acts w' (turn w' cpu t))) (sym (after-append v rs (turn v' cpu t))) one.world) in
-    let rest = steps_depend_on_outside own blind (after_acts w st) (after_acts v tt') plans seed c n (t + 1) next m.1 in
+    let next : Alike own look (after_acts w st) (after_acts v tt') =
+    subst (λ x. Alike own look x (after_acts v tt')) (sym (after-append w rs (turn w' cpu t)))
+    (subst (Alike own look (after_acts w' (turn w' cpu t))) (sym (after-append v rs (turn v' cpu t))) one.world) in
+    let rest = steps_depend_on_outside own look (after_acts w st) (after_acts v tt') plans seed c n (t + 1) next m.1 in
     let ws : List Act = steps (after_acts w st) plans seed c n (t + 1) in
     let vs : List Act = steps (after_acts v tt') plans seed c n (t + 1) in (
       ap₂ (λ x y. x ++ y) same rest.0,
-      subst (λ x. Alike own blind x (after_acts v (tt' ++ vs))) (sym (after-append w st ws))
-          (subst (Alike own blind (after_acts (after_acts w st) ws)) (sym (after-append v tt' vs)) rest.1),
+      subst (λ x. Alike own look x (after_acts v (tt' ++ vs))) (sym (after-append w st ws))
+          (subst (Alike own look (after_acts (after_acts w st) ws)) (sym (after-append v tt' vs)) rest.1),
     )

@@ -40,7 +40,7 @@ use Rattle.pip_any.proofs.Beginning.{raised_alike}
 use Rattle.pip_search_commands.specs.RunLaw.{ArePlansFrom, IsNamedBy}
 use Rattle.pip_search_commands.proofs.RunsChosen.{StandsAt, due_late, place_in, turn_events}
 
-module _ (own : List ℕ) (blind : ℕ → ℕ → Bool) (first : Memory) (g : Menu) (m : Moment) (t0 : ℕ) where
+module _ (own : List ℕ) (look : ℕ → ℕ → ℕ → ℕ) (first : Memory) (g : Menu) (m : Moment) (t0 : ℕ) where
   -- the moment after choices
   abbrev at : List ℕ → Moment
   at cs = after_choices (menu_model first g) m cs
@@ -51,7 +51,7 @@ module _ (own : List ℕ) (blind : ℕ → ℕ → Bool) (first : Memory) (g : M
     can : AreChoices (menu_model first g) choices
     since : t0 ≤ t
     late : min (t - t0) g.scope.from ≤ (at choices).turns
-    alike : Alike own blind w (at choices).world
+    alike : Alike own look w (at choices).world
 
   -- a line is raised
   raised : (w : World) (t j : ℕ) → In j g.scope.lines → g.scope.from ≤ t - t0 → IsLike w t
@@ -76,8 +76,8 @@ module _ (own : List ℕ) (blind : ℕ → ℕ → Bool) (first : Memory) (g : M
         can = (omega (arith, s.within), h.can);
         since = h.since;
         late = subst (λ n. min (t - t0) g.scope.from ≤ n) (sym turns) h.late;
-        alike = subst (λ es. Alike own blind (world_of w (E.Raise j)) (after_acts here.world es)) (sym acts)
-            (raised_alike own blind w here.world j h.alike);
+        alike = subst (λ es. Alike own look (world_of w (E.Raise j)) (after_acts here.world es)) (sym acts)
+            (raised_alike own look w here.world j h.alike);
       }
 
   -- the lines that are due are raised
@@ -95,9 +95,9 @@ module _ (own : List ℕ) (blind : ℕ → ℕ → Bool) (first : Memory) (g : M
 
   module _ (ws : List Witness) (most limit count depth : ℕ) (end : Extent)
       (told : IsTold (menu_model first g) m most limit ws count end) (closed : end ≡ Closed depth)
-      (away : SearchLooksAway own blind first g m) (K : World → ℕ → Type 0)
-      (keeps : (w : World) (c : ℕ) (cs : List ℕ) → AreChoices (menu_model first g) cs → Alike own blind w (at cs).world
-      → K w c → RunsHostile g w c → TurnKeepsToMenu own blind g w c) where
+      (away : SearchLooksAway own look first g m) (K : World → ℕ → Type 0)
+      (keeps : (w : World) (c : ℕ) (cs : List ℕ) → AreChoices (menu_model first g) cs → Alike own look w (at cs).world
+      → K w c → RunsHostile g w c → TurnKeepsToMenu own look g w c) where
     covered : (k : ℕ) → IsCovered end k
     covered k = subst (λ d. IsCovered d k) (sym closed) tt
 
@@ -105,12 +105,12 @@ module _ (own : List ℕ) (blind : ℕ → ℕ → Bool) (first : Memory) (g : M
     turned : (w : World) (t c : ℕ) → c < g.scope.cpus
         → K w c → IsLike w t
         → IsLike (after_acts w (turn w c t)) (t + 1)
-        × (text_of (turn w c 0) ≢ [] → IsNamedBy ws (text_of (turn w c 0)) ⊎ TurnStaysInside own blind w c)
+        × (text_of (turn w c 0) ≢ [] → IsNamedBy ws (text_of (turn w c 0)) ⊎ TurnStaysInside own look w c)
     turned w t c lt k h =
         let here : Moment = at h.choices in
-        let root = root_alike own blind w here.world h.alike in
-        let name = name_alike own blind w here.world c h.alike in
-        let x : HasChoice own blind g w c here = turns_have_choices own blind g w c here h.alike lt
+        let root = root_alike own look w here.world h.alike in
+        let name = name_alike own look w here.world c h.alike in
+        let x : HasChoice own look g w c here = turns_have_choices own look g w c here h.alike lt
         (away h.choices c h.can lt)
         (λ r. keeps w c h.choices h.can h.alike k ((λ i. is_hostile (root i) (name i) g.may) ∙ r)) in
         let same : after_acts w (turn w c 0) ≡ after_acts w (turn w c t) =
@@ -124,7 +124,7 @@ module _ (own : List ℕ) (blind : ℕ → ℕ → Bool) (first : Memory) (g : M
               | inl all ↦ omega (arith, all)
               | inr more ↦ omega (arith, more, h.late, h.since)
             ];
-            alike = subst (λ u. Alike own blind u (at (x.choice ∷ h.choices)).world) same x.alike;
+            alike = subst (λ u. Alike own look u (at (x.choice ∷ h.choices)).world) same x.alike;
           },
           λ some. elim x.same [
             | inl shows ↦
@@ -138,7 +138,7 @@ module _ (own : List ℕ) (blind : ℕ → ℕ → Bool) (first : Memory) (g : M
     -- n steps more
     on : (ps : List Plan) (seed n t : ℕ) (w : World) → 1 ≤ g.scope.cpus → ArePlansFrom g.scope.lines t0 g.scope.from ps
         → EachTurn K w ps seed g.scope.cpus n t → IsLike w t
-        → AreNamedTurns ws own blind w ps seed g.scope.cpus n t (text_of (steps w ps seed g.scope.cpus n t))
+        → AreNamedTurns ws own look w ps seed g.scope.cpus n t (text_of (steps w ps seed g.scope.cpus n t))
     on ps seed zero t w some are ks h = refl
     on ps seed (suc n) t w some are ks h =
         let cpu : ℕ = schedule seed g.scope.cpus t in
@@ -159,37 +159,37 @@ module _ (own : List ℕ) (blind : ℕ → ℕ → Bool) (first : Memory) (g : M
         }
 
 pub programs_are_named : ProgramsAreNamed
-programs_are_named own blind first g m most limit count depth ws end told closed some away w alike plans seed n t are
+programs_are_named own look first g m most limit count depth ws end told closed some away w alike plans seed n t are
     keeps =
-    on own blind first g m t ws most limit count depth end told closed away (HostileKeeps own blind g)
+    on own look first g m t ws most limit count depth end told closed away (HostileKeeps own look g)
     (λ w c cs can a k. k) plans seed n t w some are keeps
     (record { choices = []; can = tt; since = omega arith; late = omega arith; alike = alike })
 
 -- a confined partition keeps to the menu where its exits do
-confined_keeps : (own : List ℕ) (blind : ℕ → ℕ → Bool) (g : Menu) (w v : World) (c : ℕ) → Alike own blind w v → ((p : ℕ)
-    → name_on v c ≡ Some p → RunsHostile g v c → In p own × IsConfined v.tree p) → HostileExits own blind g w c
-    → RunsHostile g w c → TurnKeepsToMenu own blind g w c
-confined_keeps own blind g w v c a f x h = by (runs_on w c) refl
+confined_keeps : (own : List ℕ) (look : ℕ → ℕ → ℕ → ℕ) (g : Menu) (w v : World) (c : ℕ) → Alike own look w v → ((p : ℕ)
+    → name_on v c ≡ Some p → RunsHostile g v c → In p own × IsConfined v.tree p) → HostileExits own look g w c
+    → RunsHostile g w c → TurnKeepsToMenu own look g w c
+confined_keeps own look g w v c a f x h = by (runs_on w c) refl
   where
     hostile : RunsHostile g v c
     hostile =
-        let root = root_alike own blind w v a in
-        let name = name_alike own blind w v c a in
+        let root = root_alike own look w v a in
+        let name = name_alike own look w v c a in
         sym (λ i. is_hostile (root i) (name i) g.may) ∙ h
 
-    by : (o : Option Occupant) → runs_on w c ≡ o → TurnKeepsToMenu own blind g w c
+    by : (o : Option Occupant) → runs_on w c ≡ o → TurnKeepsToMenu own look g w c
     by None k = absurd (nobody_hostile w.tree.root.name g.may
         (sym (ap (λ o. is_hostile w.tree.root.name (option_map (λ r. r.name) o) g.may) k) ∙ h))
     by (Some r) k =
-        let named : name_on v c ≡ Some r.name = sym (name_alike own blind w v c a) ∙ ap (option_map (λ r. r.name)) k in
+        let named : name_on v c ≡ Some r.name = sym (name_alike own look w v c a) ∙ ap (option_map (λ r. r.name)) k in
         let (i, confined) = f r.name named hostile in
-        confined_keeps_to_menu own blind g w c r k i
-        (confined_alike blind v.tree w.tree r.name (alike_back own blind w v a).tree confined) (x h)
+        confined_keeps_to_menu own look g w c r k i
+        (confined_alike look v.tree w.tree r.name (alike_back own look w v a).tree confined) (x h)
 
 pub confined_programs_are_named : ConfinedProgramsAreNamed
-confined_programs_are_named own blind first g m most limit count depth ws end told end_is some away fits w alike plans
+confined_programs_are_named own look first g m most limit count depth ws end told end_is some away fits w alike plans
     seed n t are exits =
-    on own blind first g m t ws most limit count depth end told end_is away (HostileExits own blind g)
-    (λ w c cs can a k h. confined_keeps own blind g w (after_choices (menu_model first g) m cs).world c a
+    on own look first g m t ws most limit count depth end told end_is away (HostileExits own look g)
+    (λ w c cs can a k h. confined_keeps own look g w (after_choices (menu_model first g) m cs).world c a
     (λ p q r. fits cs c p can q r) k h) plans seed n t w some are exits
     (record { choices = []; can = tt; since = omega arith; late = omega arith; alike = alike })

@@ -9,17 +9,18 @@ use Rattle.pip_any.proofs.Naming.{confined_programs_are_named}
 use Rattle.pip_model.specs.Acts.{after_acts, text_of}
 use Rattle.pip_model.specs.Images.{Image}
 use Rattle.pip_model.specs.Run.{image_world, steps}
-use Rattle.pip_model.specs.Worlds.{World}
+use Rattle.pip_model.specs.Worlds.{IsSoundWorld, World}
 use Rattle.pip_model.specs.declared.processors.Occupant.{Occupant}
-use Rattle.pip_outside.specs.Outside.{Alike}
+use Rattle.pip_outside.specs.Outside.{Alike, seen_but}
 use Rattle.pip_base.specs.Memory.{Memory}
 use Rattle.pip_command_contracts.specs.EndsBy.{Response, plainly}
 use Rattle.pip_every.specs.Away.{IsAwaySaid}
 use Rattle.pip_every.specs.Menus.{Menu, menu_model, name_on}
 use Rattle.pip_every.specs.Moments.{Moment}
+use Rattle.pip_hostile.specs.Passing.{HasPassed}
 use Rattle.pip_every.specs.declared.away.Away.TheVariants.{Yes}
 use Rattle.pip_hostile.specs.Tests.{IsPassed}
-use Rattle.pip_hostile.proofs.Testing.{tests_pass}
+use Rattle.pip_hostile.proofs.Testing.{states_pass, tests_pass}
 use Rattle.pip_search.specs.Reached.{AreChoices, IsCovered}
 use Rattle.pip_search.specs.Summary.{IsAmong}
 use Rattle.pip_search.specs.Systems.{after_choices}
@@ -30,39 +31,39 @@ use Rattle.pip_search_commands.specs.SearchDues.{IsSearchedAgainst, begun_moment
 use Rattle.pip_search_commands.specs.SearchDues.{most_choices}
 use Rattle.pip_search_commands.specs.declared.start.Start.{Start}
 use Rattle.pip_search_commands.proofs.TextNames.{ends_away}
-use Rattle.pip_any.specs.AnyProgram.{AnyProgramFromStart, AnyProgramIsNamed, AwayTextsNamePrograms, SearchPasses}
+use Rattle.pip_any.specs.AnyProgram.{AnyProgramFromStart, AnyProgramIsNamed, AwayTextsNamePrograms}
+use Rattle.pip_any.specs.AnyProgram.{PassedNamesAnyProgram, SearchPasses}
 use Rattle.pip_any.specs.AnyProgram.{TestedNamesAnyProgram}
 
 pub any_program_is_named : AnyProgramIsNamed
-any_program_is_named own blind menu states from depth most start i j v s closed cpus away fits alike plans seed n are
+any_program_is_named own look menu states from depth most start i j v s closed cpus away fits alike plans seed n are
     exits =
     let w : World = begun_world j start in
     let k = s.told.counted.all [] tt (subst (λ d. IsCovered d 0) (sym closed) tt) in
     let some : 1 ≤ i.cpus = omega (arith, k.stands.stands.sound.at_least_one, k.stands.cpus) in
-    subst (λ c. AreNamedTurns s.found own blind w plans seed c n start.count
+    subst (λ c. AreNamedTurns s.found own look w plans seed c n start.count
     (text_of (steps w plans seed c n start.count)))
     (sym cpus)
-    (confined_programs_are_named own blind s.first (image_menu i from menu.may) (begun_moment i start)
+    (confined_programs_are_named own look s.first (image_menu i from menu.may) (begun_moment i start)
     (most_choices most)
     states s.count depth s.found s.verdict s.told closed some away fits w alike plans seed n start.count are
-    (subst (λ c. EachTurn (HostileExits own blind (image_menu i from menu.may)) w plans seed c n start.count)
+    (subst (λ c. EachTurn (HostileExits own look (image_menu i from menu.may)) w plans seed c n start.count)
     cpus exits))
 
 begins : (i : Image) (start : Start) → start.count ≡ 0 → begun_world i start ≡ image_world i
 begins i start e = ap (λ n. after_acts (image_world i) (steps (image_world i) i.plans start.seed i.cpus n 0)) e
 
 pub any_program_from_start : AnyProgramFromStart
-any_program_from_start own blind menu states from depth most start i j v s closed none cpus frames words away confines
+any_program_from_start own look menu states from depth most start i j v s closed none cpus frames words away confines
     plans seed n are exits =
-    any_program_is_named own blind menu states from depth most start i j v s closed cpus away confines
-    (subst (λ w. Alike own blind w (begun_world i start)) (sym (begins j start none))
-    (subst (Alike own blind (image_world j)) (sym (begins i start none))
-    (images_look_alike own blind j i frames cpus words)))
+    any_program_is_named own look menu states from depth most start i j v s closed cpus away confines
+    (subst (λ w. Alike own look w (begun_world i start)) (sym (begins j start none))
+    (subst (Alike own look (image_world j)) (sym (begins i start none))
+    (images_look_alike own look j i frames cpus words)))
     plans seed n are exits
 
-module _ (own : List ℕ) (blind : ℕ → ℕ → Bool) (menu : MenuSaid) (states from depth : ℕ) (most : Option ℕ)
-    (start : Start) (i : Image) (v : Response) (s : IsSearchedAgainst menu states from most start i v)
-    (closed : s.verdict ≡ Closed depth) where
+module _ (menu : MenuSaid) (states from depth : ℕ) (most : Option ℕ) (start : Start) (i : Image) (v : Response)
+    (s : IsSearchedAgainst menu states from most start i v) (closed : s.verdict ≡ Closed depth) where
   abbrev g : Menu
   g = image_menu i from menu.may
 
@@ -85,19 +86,36 @@ module _ (own : List ℕ) (blind : ℕ → ℕ → Bool) (menu : MenuSaid) (stat
       within (o ∷ os) zero p e = omega arith
       within (o ∷ os) (suc c) p e = let less = within os c p e in omega (arith, less)
 
-  passed : SearchPasses own blind s.first g (begun_moment i start) → (cs : List ℕ) (c : ℕ)
-      → AreChoices (menu_model s.first g) cs → c < i.cpus → IsPassed own blind g (at cs) c
-  passed pass cs c can less =
-      tests_pass own blind g (at cs) c (stands cs can).stands.stands.sound (pass cs c can less)
+  sound : (cs : List ℕ) → AreChoices (menu_model s.first g) cs → IsSoundWorld (at cs)
+  sound cs can = (stands cs can).stands.stands.sound
 
 pub tested_names_any_program : TestedNamesAnyProgram
 tested_names_any_program own blind menu states from depth most start i j v s closed cpus pass a plans seed n are exits
     =
-    any_program_is_named own blind menu states from depth most start i j v s closed cpus
-    (λ cs c can lt. (passed own blind menu states from depth most start i v s closed pass cs c can lt).away)
-    (λ cs c p can named h. (passed own blind menu states from depth most start i v s closed pass cs c can
-    (there own blind menu states from depth most start i v s closed cs c p can named)).confined p named h)
-    a plans seed n are exits
+    any_program_is_named own (seen_but blind) menu states from depth most start i j v s closed cpus
+    (λ cs c can lt. (passed cs c can lt).away)
+    (λ cs c p can named h. (passed cs c can (there menu states from depth most start i v s closed cs c p can
+    named)).confined p named h) a plans seed n are exits
+  where
+    passed : (cs : List ℕ) (c : ℕ) → AreChoices (menu_model s.first (image_menu i from menu.may)) cs → c < i.cpus
+        → IsPassed own blind (image_menu i from menu.may) (at menu states from depth most start i v s closed cs) c
+    passed cs c can less = tests_pass own blind (image_menu i from menu.may)
+        (at menu states from depth most start i v s closed cs) c
+        (sound menu states from depth most start i v s closed cs can) (pass cs c can less)
+
+pub passed_names_any_program : PassedNamesAnyProgram
+passed_names_any_program own look tests menu states from depth most start i j v s is closed cpus pass a plans seed n are
+    exits =
+    any_program_is_named own look menu states from depth most start i j v s closed cpus
+    (λ cs c can lt. (passed cs c can lt).away)
+    (λ cs c p can named h. (passed cs c can (there menu states from depth most start i v s closed cs c p can
+    named)).confined p named h) a plans seed n are exits
+  where
+    passed : (cs : List ℕ) (c : ℕ) → AreChoices (menu_model s.first (image_menu i from menu.may)) cs → c < i.cpus
+        → HasPassed own look (image_menu i from menu.may) (at menu states from depth most start i v s closed cs) c
+    passed cs c can less = states_pass own look tests (image_menu i from menu.may)
+        (at menu states from depth most start i v s closed cs) c is
+        (sound menu states from depth most start i v s closed cs can) (pass cs c can less)
 
 -- it is said of a search that closed alone
 closed_away : (first : Memory) (o : LeftOut) (g : Menu) (m : Moment) (end : Extent)

@@ -1,5 +1,5 @@
 -- Where runs of two images begin that differ in some pages alone, and steps that read none of them.
-use Rattle.std.specs.Prelude.{◌≡◌, ℕ, zero, suc, ◌+◌, Bool, false, List}
+use Rattle.std.specs.Prelude.{◌≡◌, ℕ, zero, suc, ◌+◌, List}
 use Rattle.pip_base.specs.declared.types.Plan.{Plan}
 use Rattle.pip_model.specs.Acts.{after_acts}
 use Rattle.pip_model.specs.Images.{Image, image_word}
@@ -8,24 +8,23 @@ use Rattle.pip_model.specs.Worlds.{World}
 use Rattle.pip_outside.specs.Outside.{Alike}
 use Rattle.pip_outside.specs.Turns.{TurnReadsOutside}
 
--- two images of one size whose pages have the same words, but for those that are left out, begin alike
+-- two images of one size of whose words the same is seen begin alike
 abbrev pub ImagesLookAlike : Type 0
-ImagesLookAlike = (own : List ℕ) (blind : ℕ → ℕ → Bool) (i j : Image) → i.frames ≡ j.frames → i.cpus ≡ j.cpus
-    → ((g k : ℕ)
-    → blind g k ≡ false → image_word i.frames i.pages g k ≡ image_word j.frames j.pages g k)
-    → Alike own blind (image_world i) (image_world j)
+ImagesLookAlike = (own : List ℕ) (look : ℕ → ℕ → ℕ → ℕ) (i j : Image) → i.frames ≡ j.frames → i.cpus ≡ j.cpus
+    → ((g k : ℕ) → look g k (image_word i.frames i.pages g k) ≡ look g k (image_word j.frames j.pages g k))
+    → Alike own look (image_world i) (image_world j)
 
--- each turn of n steps from step t on reads none of these pages
-abbrev pub StepsReadOutside : List ℕ → (ℕ → ℕ → Bool) → World → List Plan → ℕ → ℕ → ℕ → ℕ → Type 0
-StepsReadOutside own blind w plans seed c zero t = Unit {0}
-StepsReadOutside own blind w plans seed c (suc n) t =
-    TurnReadsOutside own blind (after_acts w (raises plans t)) (schedule seed c t) t
-    × StepsReadOutside own blind (after_acts w (step w plans (schedule seed c t) t)) plans seed c n (t + 1)
+-- each turn of n steps from step t on reads nothing of words but what is seen
+abbrev pub StepsReadOutside : List ℕ → (ℕ → ℕ → ℕ → ℕ) → World → List Plan → ℕ → ℕ → ℕ → ℕ → Type 0
+StepsReadOutside own look w plans seed c zero t = Unit {0}
+StepsReadOutside own look w plans seed c (suc n) t =
+    TurnReadsOutside own look (after_acts w (raises plans t)) (schedule seed c t) t
+    × StepsReadOutside own look (after_acts w (step w plans (schedule seed c t) t)) plans seed c n (t + 1)
 
 -- then they are the same in both worlds, and lead to worlds that look alike
 abbrev pub StepsDependOnOutside : Type 0
-StepsDependOnOutside = (own : List ℕ) (blind : ℕ → ℕ → Bool) (w v : World) (plans : List Plan) (seed c n t : ℕ)
-    → Alike own blind w v
-    → StepsReadOutside own blind w plans seed c n t
+StepsDependOnOutside = (own : List ℕ) (look : ℕ → ℕ → ℕ → ℕ) (w v : World) (plans : List Plan) (seed c n t : ℕ)
+    → Alike own look w v
+    → StepsReadOutside own look w plans seed c n t
     → (steps w plans seed c n t ≡ steps v plans seed c n t)
-    × Alike own blind (after_acts w (steps w plans seed c n t)) (after_acts v (steps v plans seed c n t))
+    × Alike own look (after_acts w (steps w plans seed c n t)) (after_acts v (steps v plans seed c n t))

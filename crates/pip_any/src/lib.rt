@@ -3,7 +3,7 @@
 #![tactic(auto)]
 
 ghost use Rattle.pip_any.specs.AnyProgram.{AnyProgramFromStart, AnyProgramIsNamed, AwayTextsNamePrograms};
-ghost use Rattle.pip_any.specs.AnyProgram.{TestedNamesAnyProgram};
+ghost use Rattle.pip_any.specs.AnyProgram.{PassedNamesAnyProgram, TestedNamesAnyProgram};
 ghost use Rattle.pip_any.specs.Begins.{ImagesLookAlike, StepsDependOnOutside};
 ghost use Rattle.pip_any.specs.Programs.{ConfinedProgramsAreNamed, ProgramsAreNamed};
 
@@ -24,4 +24,5 @@ pub fn law_any_program()
     ensures from_start { AnyProgramFromStart }
     ensures tested { TestedNamesAnyProgram }
     ensures text { AwayTextsNamePrograms }
+    ensures passed { PassedNamesAnyProgram }
 {}

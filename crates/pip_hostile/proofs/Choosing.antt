@@ -88,9 +88,9 @@ nobody_hostile root (d ∷ ds) e = nobody_hostile root ds e
 
 -- ---- a partition outside, or none
 
-module _ (own : List ℕ) (blind : ℕ → ℕ → Bool) (g : Menu) (w : World) (cpu : ℕ) (m : Moment)
-    (a : Alike own blind w m.world)
-    (lt : cpu < g.scope.cpus) (l : LooksAway own blind g m.world cpu) where
+module _ (own : List ℕ) (look : ℕ → ℕ → ℕ → ℕ) (g : Menu) (w : World) (cpu : ℕ) (m : Moment)
+    (a : Alike own look w m.world)
+    (lt : cpu < g.scope.cpus) (l : LooksAway own look g m.world cpu) where
   abbrev v : World
   v = m.world
 
@@ -100,7 +100,7 @@ module _ (own : List ℕ) (blind : ℕ → ℕ → Bool) (g : Menu) (w : World) 
   usual : cpu < usual_choices g
   usual = omega (arith, lt)
 
-  outside_has : is_hostile v.tree.root.name (name_on v cpu) g.may ≡ false → HasChoice own blind g w cpu m
+  outside_has : is_hostile v.tree.root.name (name_on v cpu) g.may ≡ false → HasChoice own look g w cpu m
   outside_has f =
       let pick : picked g v cpu ≡ Usual = goes_is g v cpu usual
       (ap (λ b. b && is_hostile v.tree.root.name (name_on v cpu) g.may) there ∙ f) in
@@ -108,25 +108,25 @@ module _ (own : List ℕ) (blind : ℕ → ℕ → Bool) (g : Menu) (w : World) 
       ∙ turn_chosen g.scope m cpu lt in
       let turns : pick_turns g m cpu (picked g v cpu) ≡ turns_after g.scope.from m.turns (turn_end v cpu) =
       ap (pick_turns g m cpu) pick ∙ more_turns g.scope m cpu lt in
-      let t : IsOneTurn own blind cpu 0 v w =
-      turns_depend_on_outside own blind v w cpu 0 (alike_back own blind w v a) (l.turn f) in
+      let t : IsOneTurn own look cpu 0 v w =
+      turns_depend_on_outside own look v w cpu 0 (alike_back own look w v a) (l.turn f) in
       record {
         choice = cpu;
         can = omega (arith, lt);
         counts = subst (λ n. (g.scope.from ≤ n) ⊎ (m.turns < n)) (sym turns)
             (counted g.scope.from m.turns (turn_end v cpu));
         same = inl (ap text_of (acts ∙ t.acts));
-        alike = subst (λ es. Alike own blind (after_acts w (turn w cpu 0)) (after_acts v es)) (sym acts)
-            (alike_back own blind _ _ t.world);
+        alike = subst (λ es. Alike own look (after_acts w (turn w cpu 0)) (after_acts v es)) (sym acts)
+            (alike_back own look _ _ t.world);
       }
 
   -- ---- a hostile partition
 
   -- it waits
-  waits : RunsHostile g v cpu → (label : List ℕ) → Alike own blind (after_acts w (turn w cpu 0))
+  waits : RunsHostile g v cpu → (label : List ℕ) → Alike own look (after_acts w (turn w cpu 0))
       (world_of v (E.Poll cpu))
       → text_of (acts_after_line (world_of v (E.Poll cpu)) cpu None (outcome_of v (E.Poll cpu))) ≡ label
-      → (label ≡ text_of (turn w cpu 0)) ⊎ TurnStaysInside own blind w cpu → HasChoice own blind g w cpu m
+      → (label ≡ text_of (turn w cpu 0)) ⊎ TurnStaysInside own look w cpu → HasChoice own look g w cpu m
   waits h label b shows same =
       let pick : picked g v cpu ≡ Hostile cpu None = waits_is g v cpu usual
       (ap (λ b. b && is_hostile v.tree.root.name (name_on v cpu) g.may) there ∙ h) in
@@ -137,14 +137,14 @@ module _ (own : List ℕ) (blind : ℕ → ℕ → Bool) (g : Menu) (w : World) 
         choice = cpu;
         can = omega (arith, lt);
         counts = subst (λ n. (g.scope.from ≤ n) ⊎ (m.turns < n)) (sym turns) (counted g.scope.from m.turns N.Ran);
-        same = subst (λ x. (x ≡ text_of (turn w cpu 0)) ⊎ TurnStaysInside own blind w cpu)
+        same = subst (λ x. (x ≡ text_of (turn w cpu 0)) ⊎ TurnStaysInside own look w cpu)
             (sym (ap text_of acts ∙ shows)) same;
-        alike = subst (λ es. Alike own blind (after_acts w (turn w cpu 0)) (after_acts v es)) (sym acts)
+        alike = subst (λ es. Alike own look (after_acts w (turn w cpu 0)) (after_acts v es)) (sym acts)
             (polled (outcome_of v (E.Poll cpu)) b);
       }
     where
-      polled : (o : Outcome) → Alike own blind (after_acts w (turn w cpu 0)) (world_of v (E.Poll cpu))
-          → Alike own blind (after_acts w (turn w cpu 0))
+      polled : (o : Outcome) → Alike own look (after_acts w (turn w cpu 0)) (world_of v (E.Poll cpu))
+          → Alike own look (after_acts w (turn w cpu 0))
           (after_acts (world_of v (E.Poll cpu)) (acts_after_line (world_of v (E.Poll cpu)) cpu None o))
       polled (O.Switched p q k) b = b
       polled (O.Word x) b = b
@@ -163,8 +163,8 @@ module _ (own : List ℕ) (blind : ℕ → ℕ → Bool) (g : Menu) (w : World) 
   -- it does a deed
   does : FindsNoLine w cpu → FindsNoLine v cpu
       → (d : (place : ℕ) (d : May) → slice_get g.may place ≡ Some d → is_its v.tree.root.name (name_on v cpu) d ≡ true
-      → (DeedAnswers v cpu d.deed → ⊥) → ReadsOutside own blind v (deed_event cpu d.deed))
-      → LeavesBy own blind g cpu v d w (fetch_acts w 0 cpu) → HasChoice own blind g w cpu m
+      → (DeedAnswers v cpu d.deed → ⊥) → ReadsOutside own look v (deed_event cpu d.deed))
+      → LeavesBy own look g cpu v d w (fetch_acts w 0 cpu) → HasChoice own look g w cpu m
   does vain vain' d x =
       let c : ℕ = g.scope.cpus in
       let u : ℕ = usual_choices g in
@@ -190,39 +190,39 @@ module _ (own : List ℕ) (blind : ℕ → ℕ → Bool) (g : Menu) (w : World) 
         can = omega (arith, few);
         counts = subst (λ n. (g.scope.from ≤ n) ⊎ (m.turns < n)) (sym turns) (counted g.scope.from m.turns N.Ran);
         same = inl (ap text_of acts ∙ shows ∙ sym x.same ∙ sym (ap text_of (turn_is vain)));
-        alike = subst (λ y. Alike own blind y (after_acts v (pick_acts g m k (picked g v k)))) (sym (turn_leads vain))
-            (subst (λ es. Alike own blind (after_acts w (fetch_acts w 0 cpu)) (after_acts v es)) (sym acts)
-            (subst (Alike own blind (after_acts w (fetch_acts w 0 cpu))) (sym leads) x.alike));
+        alike = subst (λ y. Alike own look y (after_acts v (pick_acts g m k (picked g v k)))) (sym (turn_leads vain))
+            (subst (λ es. Alike own look (after_acts w (fetch_acts w 0 cpu)) (after_acts v es)) (sym acts)
+            (subst (Alike own look (after_acts w (fetch_acts w 0 cpu))) (sym leads) x.alike));
       }
 
-  hostile_has : RunsHostile g v cpu → TurnKeepsToMenu own blind g w cpu → HasChoice own blind g w cpu m
-  hostile_has h k = runs (runs_on v cpu) (runs_on w cpu) refl refl (runs_alike own blind w v cpu a)
+  hostile_has : RunsHostile g v cpu → TurnKeepsToMenu own look g w cpu → HasChoice own look g w cpu m
+  hostile_has h k = runs (runs_on v cpu) (runs_on w cpu) refl refl (runs_alike own look w v cpu a)
     where
-      poll : IsAlike own blind (E.Poll cpu) v w
-      poll = outside_depends_on_outside own blind v w (E.Poll cpu) (alike_back own blind w v a) (l.poll h)
+      poll : IsAlike own look (E.Poll cpu) v w
+      poll = outside_depends_on_outside own look v w (E.Poll cpu) (alike_back own look w v a) (l.poll h)
 
       -- neither or both find a line
       polls : FindsNoLine w cpu ⊎ ((p : ℕ) × (q : ℕ) × (j : ℕ) × (outcome_of w (E.Poll cpu) ≡ O.Switched p q j))
           → FindsNoLine v cpu ⊎ ((p : ℕ) × (q : ℕ) × (j : ℕ) × (outcome_of v (E.Poll cpu) ≡ O.Switched p q j))
-          → HasChoice own blind g w cpu m
+          → HasChoice own look g w cpu m
       polls (inl x) (inr y) =
           let e : O.Switched y.0 y.1 y.2 ≡ O.Done = sym y.3 ∙ poll.outcome ∙ ap (λ h. h.outcome) x in cc
       polls (inr x) (inl y) =
           let e : O.Switched x.0 x.1 x.2 ≡ O.Done = sym x.3 ∙ sym poll.outcome ∙ ap (λ h. h.outcome) y in cc
-      polls (inl x) (inl y) = by (fetch_does own blind g cpu v (l.deeds h y) w a (k x))
+      polls (inl x) (inl y) = by (fetch_does own look g cpu v (l.deeds h y) w a (k x))
         where
-          by : Does own blind g cpu v (l.deeds h y) w (fetch_acts w 0 cpu) → HasChoice own blind g w cpu m
+          by : Does own look g cpu v (l.deeds h y) w (fetch_acts w 0 cpu) → HasChoice own look g w cpu m
           by (inr z) = does x y (l.deeds h y) z
           by (inl all) = waits h []
-              (subst (λ t. Alike own blind t (world_of v (E.Poll cpu))) (sym (turn_leads x
+              (subst (λ t. Alike own look t (world_of v (E.Poll cpu))) (sym (turn_leads x
               ∙ after-events w (fetch_acts w 0 cpu)))
-              (subst (λ t. Alike own blind (after w (events_made (fetch_acts w 0 cpu))) t) (sym (ap (λ h. h.world) y))
-              (unseen_alike own blind g cpu v (l.deeds h y) (events_made (fetch_acts w 0 cpu)) w v all a)))
+              (subst (λ t. Alike own look (after w (events_made (fetch_acts w 0 cpu))) t) (sym (ap (λ h. h.world) y))
+              (unseen_alike own look g cpu v (l.deeds h y) (events_made (fetch_acts w 0 cpu)) w v all a)))
               (ap (λ h. text_of (acts_after_line h.world cpu None h.outcome)) y)
               (inr (record { vain = x; unseen = all }))
       polls (inr x) (inr y) = waits h (text_of (move_acts 0 cpu (O.Switched y.0 y.1 y.2)))
-          (subst (λ t. Alike own blind t (world_of v (E.Poll cpu))) (sym switched_to)
-          (alike_back own blind _ _ poll.world))
+          (subst (λ t. Alike own look t (world_of v (E.Poll cpu))) (sym switched_to)
+          (alike_back own look _ _ poll.world))
           (ap (λ o. text_of (acts_after_line (world_of v (E.Poll cpu)) cpu None o)) y.3)
           (inl (sym (ap (λ o. text_of (acts_after_poll (world_of w (E.Poll cpu)) 0 cpu o))
           (sym poll.outcome ∙ y.3))))
@@ -234,7 +234,7 @@ module _ (own : List ℕ) (blind : ℕ → ℕ → Bool) (g : Menu) (w : World) 
 
       runs : (o p : Option Occupant) → runs_on v cpu ≡ o → runs_on w cpu ≡ p
           → AlikeOn own (runs_on w cpu) (runs_on v cpu)
-          → HasChoice own blind g w cpu m
+          → HasChoice own look g w cpu m
       runs None p e f b =
           let x : is_hostile v.tree.root.name None g.may ≡ true =
           sym (ap (λ o. is_hostile v.tree.root.name (option_map (λ r. r.name) o) g.may) e) ∙ h in
@@ -244,9 +244,9 @@ module _ (own : List ℕ) (blind : ℕ → ℕ → Bool) (g : Menu) (w : World) 
       runs (Some r) (Some q) e f b = polls (poll_either w cpu q f) (poll_either v cpu r e)
 
 pub turns_have_choices : TurnsHaveChoices
-turns_have_choices own blind g w cpu m a lt l k =
+turns_have_choices own look g w cpu m a lt l k =
     go (is_hostile m.world.tree.root.name (name_on m.world cpu) g.may) refl
   where
-    go : (b : Bool) → is_hostile m.world.tree.root.name (name_on m.world cpu) g.may ≡ b → HasChoice own blind g w cpu m
-    go false e = outside_has own blind g w cpu m a lt l e
-    go true e = hostile_has own blind g w cpu m a lt l e (k e)
+    go : (b : Bool) → is_hostile m.world.tree.root.name (name_on m.world cpu) g.may ≡ b → HasChoice own look g w cpu m
+    go false e = outside_has own look g w cpu m a lt l e
+    go true e = hostile_has own look g w cpu m a lt l e (k e)

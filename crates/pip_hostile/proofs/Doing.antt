@@ -1,5 +1,5 @@
 -- What a program does in a turn: it stays inside, or leaves by a deed of the menu.
-use Rattle.std.proofs.Common.{◌≡◌, ℕ, ◌⊎◌, inl, inr, Bool, true, List, [], ◌∷◌, refl, sym, ap, ◌∙◌, subst}
+use Rattle.std.proofs.Common.{◌≡◌, ℕ, ◌⊎◌, inl, inr, true, List, [], ◌∷◌, refl, sym, ap, ◌∙◌, subst}
 use Rattle.std.proofs.Common.{Option, Some, None, slice_get, option_map}
 use Rattle.std.proofs.lemmas.List.{append-nil}
 use Rattle.pip_base.specs.declared.outcome.Outcome.{Outcome}
@@ -28,6 +28,7 @@ use Rattle.pip_model.proofs.OnLists.Acts.{after-events}
 use Rattle.pip_outside.specs.Outside.{Alike, AlikeOn, IsAlike, ReadsOutside}
 use Rattle.pip_outside.specs.Unseen.{Answers, IsUnseen}
 use Rattle.pip_outside.proofs.Alikes.{alike_back, alike_on}
+use Rattle.pip_outside.proofs.Masks.{reach_alike}
 use Rattle.pip_outside.proofs.Moved.{outside_depends_on_outside}
 use Rattle.pip_outside.proofs.Staying.{unseen_is_unseen}
 use Rattle.pip_outside.proofs.Turning.{runs_alike}
@@ -35,13 +36,13 @@ use Rattle.pip_hostile.specs.Hostile.{AllUnseen, DeedAnswers, IsNoWord, IsOnMenu
 
 -- ---- worlds that look alike
 
-pub root_alike : (own : List ℕ) (blind : ℕ → ℕ → Bool) (w v : World) → Alike own blind w v
+pub root_alike : (own : List ℕ) (look : ℕ → ℕ → ℕ → ℕ) (w v : World) → Alike own look w v
     → w.tree.root.name ≡ v.tree.root.name
-root_alike own blind w v a = ap (λ t. t.root.name) a.tree.nodes
+root_alike own look w v a = ap (λ t. t.root.name) a.tree.nodes
 
-pub name_alike : (own : List ℕ) (blind : ℕ → ℕ → Bool) (w v : World) (cpu : ℕ) → Alike own blind w v
+pub name_alike : (own : List ℕ) (look : ℕ → ℕ → ℕ → ℕ) (w v : World) (cpu : ℕ) → Alike own look w v
     → name_on w cpu ≡ name_on v cpu
-name_alike own blind w v cpu a = go (runs_on w cpu) (runs_on v cpu) (runs_alike own blind w v cpu a)
+name_alike own look w v cpu a = go (runs_on w cpu) (runs_on v cpu) (runs_alike own look w v cpu a)
   where
     go : (o p : Option Occupant) → AlikeOn own o p → option_map (λ r. r.name) o ≡ option_map (λ r. r.name) p
     go None None l = refl
@@ -111,23 +112,23 @@ gave_word w cpu r va z (Place g i) a n = n
 gave_word w cpu r va z (Faulted f) a n = absurd a
 
 -- a deed that gives no word in one world is no load that is answered in another that looks alike
-no_answer : (own : List ℕ) (blind : ℕ → ℕ → Bool) (x v : World) (cpu : ℕ) (d : Deed) → Alike own blind x v
+no_answer : (own : List ℕ) (look : ℕ → ℕ → ℕ → ℕ) (x v : World) (cpu : ℕ) (d : Deed) → Alike own look x v
     → IsNoWord (event x (deed_event cpu d)).outcome → DeedAnswers v cpu d → ⊥
-no_answer own blind x v cpu (D.Load va z) a n m =
-    by (runs_on x cpu) refl (subst (AlikeOn own (runs_on x cpu)) m.1 (runs_alike own blind x v cpu a))
+no_answer own look x v cpu (D.Load va z) a n m =
+    by (runs_on x cpu) refl (subst (AlikeOn own (runs_on x cpu)) m.1 (runs_alike own look x v cpu a))
   where
     by : (o : Option Occupant) → runs_on x cpu ≡ o → AlikeOn own o (Some m.0) → ⊥
     by None k b = b
     by (Some q) k b =
         let there : reach x.tree q.name va Load z ≡ reach v.tree m.0.name va Load z =
-        ap (λ p. reach x.tree p va Load z) b.0 ∙ ap (λ t. reach t m.0.name va Load z) a.tree.nodes in
+        ap (λ p. reach x.tree p va Load z) b.0 ∙ reach_alike look x.tree v.tree m.0.name va Load z a.tree in
         gave_word x cpu q va z (reach x.tree q.name va Load z) (subst Answers (sym there) m.2)
         (subst (λ h. IsNoWord h.outcome) (ap (λ o. on_running x cpu o
         (λ r. load_happens x cpu r va Load z (reach x.tree r.name va Load z))) k) n)
-no_answer own blind x v cpu (D.StoreWord va y) a n m = m
-no_answer own blind x v cpu (D.StoreByte va y) a n m = m
-no_answer own blind x v cpu (D.Trap k y z) a n m = m
-no_answer own blind x v cpu (D.Call number args) a n m = m
+no_answer own look x v cpu (D.StoreWord va y) a n m = m
+no_answer own look x v cpu (D.StoreByte va y) a n m = m
+no_answer own look x v cpu (D.Trap k y z) a n m = m
+no_answer own look x v cpu (D.Call number args) a n m = m
 
 -- a context that is set is on no menu
 not_set : (d : Deed) (cpu : ℕ) (c : Ctx) → StandsForEvent d (E.SetContext cpu c) → ⊥
@@ -137,9 +138,9 @@ not_set (D.StoreByte va y) cpu c s = s
 not_set (D.Trap v x y) cpu c s = s
 not_set (D.Call number args) cpu c s = s
 
-module _ (own : List ℕ) (blind : ℕ → ℕ → Bool) (g : Menu) (cpu : ℕ) (v : World) (deeds : (place : ℕ) (d : May)
+module _ (own : List ℕ) (look : ℕ → ℕ → ℕ → ℕ) (g : Menu) (cpu : ℕ) (v : World) (deeds : (place : ℕ) (d : May)
     → slice_get g.may place ≡ Some d → is_its v.tree.root.name (name_on v cpu) d ≡ true → (DeedAnswers v cpu d.deed → ⊥)
-    → ReadsOutside own blind v (deed_event cpu d.deed)) where
+    → ReadsOutside own look v (deed_event cpu d.deed)) where
   -- acts leave by a deed: they show what it shows in v, and both lead to worlds that look alike
   pub record LeavesBy (x : World) (acts : List Act) : Type 0 where
     pub place : ℕ
@@ -147,29 +148,29 @@ module _ (own : List ℕ) (blind : ℕ → ℕ → Bool) (g : Menu) (cpu : ℕ) 
     pub at : slice_get g.may place ≡ Some may
     pub its : is_its v.tree.root.name (name_on v cpu) may ≡ true
     pub same : text_of acts ≡ deed_line cpu may.deed (outcome_of v (deed_event cpu may.deed))
-    pub alike : Alike own blind (after_acts x acts) (world_of v (deed_event cpu may.deed))
+    pub alike : Alike own look (after_acts x acts) (world_of v (deed_event cpu may.deed))
 
   -- acts stay inside, or leave so
   abbrev pub Does : World → List Act → Type 0
-  Does x acts = AllUnseen own blind x (events_made acts) ⊎ LeavesBy x acts
+  Does x acts = AllUnseen own look x (events_made acts) ⊎ LeavesBy x acts
 
   -- what nobody sees leaves the world as it looks
-  pub unseen_alike : (es : List Event) (x y : World) → AllUnseen own blind x es → Alike own blind x y
-      → Alike own blind (after x es) y
+  pub unseen_alike : (es : List Event) (x y : World) → AllUnseen own look x es → Alike own look x y
+      → Alike own look (after x es) y
   unseen_alike [] x y m a = a
   unseen_alike (e ∷ es) x y m a = unseen_alike es (event x e).world y m.1
-      (alike_on own blind (event x e).world x y (unseen_is_unseen own blind x e m.0) a)
+      (alike_on own look (event x e).world x y (unseen_is_unseen own look x e m.0) a)
 
   -- one event stays inside, and the rest does what it does
-  goes_on : (x : World) (e : Event) (acts : List Act) → IsUnseen own blind x e → Does (world_of x e) acts
+  goes_on : (x : World) (e : Event) (acts : List Act) → IsUnseen own look x e → Does (world_of x e) acts
       → Does x (Makes e ∷ acts)
   goes_on x e acts m (inl all) = inl (m, all)
   goes_on x e acts m (inr l) =
       inr (record { place = l.place; may = l.may; at = l.at; its = l.its; same = l.same; alike = l.alike })
 
   -- an event is on the menu, and what comes after it stays inside
-  leaves : (x : World) (e : Event) (acts : List Act) → Alike own blind x v → IsOnMenu own blind g x cpu e
-      → AllUnseen own blind (world_of x e) (events_made acts) → text_of acts ≡ line_of cpu e (outcome_of x e)
+  leaves : (x : World) (e : Event) (acts : List Act) → Alike own look x v → IsOnMenu own look g x cpu e
+      → AllUnseen own look (world_of x e) (events_made acts) → text_of acts ≡ line_of cpu e (outcome_of x e)
       → LeavesBy x (Makes e ∷ acts)
   leaves x e acts a m all shows = record {
     place = m.place;
@@ -178,47 +179,47 @@ module _ (own : List ℕ) (blind : ℕ → ℕ → Bool) (g : Menu) (cpu : ℕ) 
     its = its;
     same = shows ∙ ap (line_of cpu e) outcome ∙ line_same cpu m.may.deed e (outcome_of v (deed_event cpu m.may.deed))
         m.stands;
-    alike = subst (λ y. Alike own blind y (world_of v (deed_event cpu m.may.deed)))
+    alike = subst (λ y. Alike own look y (world_of v (deed_event cpu m.may.deed)))
         (sym (after-events (world_of x e) acts))
         (unseen_alike (events_made acts) (world_of x e) (world_of v (deed_event cpu m.may.deed)) all after_it);
   }
     where
       its : is_its v.tree.root.name (name_on v cpu) m.may ≡ true
-      its = let r = root_alike own blind x v a in let n = name_alike own blind x v cpu a in
+      its = let r = root_alike own look x v a in let n = name_alike own look x v cpu a in
           sym (λ i. is_its (r i) (n i) m.may) ∙ m.its
 
-      there : IsAlike own blind (deed_event cpu m.may.deed) v x
-      there = outside_depends_on_outside own blind v x (deed_event cpu m.may.deed) (alike_back own blind x v a)
-          (deeds m.place m.may m.at its (no_answer own blind x v cpu m.may.deed a
+      there : IsAlike own look (deed_event cpu m.may.deed) v x
+      there = outside_depends_on_outside own look v x (deed_event cpu m.may.deed) (alike_back own look x v a)
+          (deeds m.place m.may m.at its (no_answer own look x v cpu m.may.deed a
           (subst IsNoWord m.outcome m.word)))
 
       outcome : outcome_of x e ≡ outcome_of v (deed_event cpu m.may.deed)
       outcome = m.outcome ∙ sym there.outcome
 
-      after_it : Alike own blind (world_of x e) (world_of v (deed_event cpu m.may.deed))
-      after_it = alike_on own blind (world_of x e) (world_of x (deed_event cpu m.may.deed))
-          (world_of v (deed_event cpu m.may.deed)) m.alike (alike_back own blind _ _ there.world)
+      after_it : Alike own look (world_of x e) (world_of v (deed_event cpu m.may.deed))
+      after_it = alike_on own look (world_of x e) (world_of x (deed_event cpu m.may.deed))
+          (world_of v (deed_event cpu m.may.deed)) m.alike (alike_back own look _ _ there.world)
 
   -- one event, after which nothing leaves
-  one_event : (x : World) (e : Event) (acts : List Act) → Alike own blind x v
-      → IsUnseen own blind x e ⊎ IsOnMenu own blind g x cpu e → AllUnseen own blind (world_of x e) (events_made acts)
+  one_event : (x : World) (e : Event) (acts : List Act) → Alike own look x v
+      → IsUnseen own look x e ⊎ IsOnMenu own look g x cpu e → AllUnseen own look (world_of x e) (events_made acts)
       → text_of acts ≡ line_of cpu e (outcome_of x e) → Does x (Makes e ∷ acts)
   one_event x e acts a (inl m) all shows = inl (m, all)
   one_event x e acts a (inr m) all shows = inr (leaves x e acts a m all shows)
 
-  set_unseen : (x : World) (c : Ctx) → IsUnseen own blind x (E.SetContext cpu c)
-      ⊎ IsOnMenu own blind g x cpu (E.SetContext cpu c)
-      → IsUnseen own blind x (E.SetContext cpu c)
+  set_unseen : (x : World) (c : Ctx) → IsUnseen own look x (E.SetContext cpu c)
+      ⊎ IsOnMenu own look g x cpu (E.SetContext cpu c)
+      → IsUnseen own look x (E.SetContext cpu c)
   set_unseen x c (inl m) = m
   set_unseen x c (inr m) = absurd (not_set m.may.deed cpu c m.stands)
 
   -- what comes after a load and a store
   record Rest (y : World) (acts : List Act) (line : List ℕ) : Type 0 where
-    all : AllUnseen own blind y (events_made acts)
+    all : AllUnseen own look y (events_made acts)
     shows : text_of acts ≡ line
 
   load_rest : (y : World) (c : Ctx) (a : ℕ) (o : Outcome)
-      → KeepsToMenu own blind g y cpu (events_made (load_acts 0 cpu c a o))
+      → KeepsToMenu own look g y cpu (events_made (load_acts 0 cpu c a o))
       → Rest y (load_acts 0 cpu c a o) (moved_line 0 cpu o)
   load_rest y c a (O.Word u) k = record { all = (set_unseen y _ k.0, tt); shows = refl }
   load_rest y c a O.Done k = record { all = tt; shows = refl }
@@ -228,7 +229,7 @@ module _ (own : List ℕ) (blind : ℕ → ℕ → Bool) (g : Menu) (cpu : ℕ) 
   load_rest y c a O.Idle k = record { all = tt; shows = refl }
 
   store_rest : (y : World) (c : Ctx) (o : Outcome)
-      → KeepsToMenu own blind g y cpu (events_made (store_acts 0 cpu c o))
+      → KeepsToMenu own look g y cpu (events_made (store_acts 0 cpu c o))
       → Rest y (store_acts 0 cpu c o) (moved_line 0 cpu o)
   store_rest y c (O.Word u) k = record { all = tt; shows = refl }
   store_rest y c O.Done k = record { all = (set_unseen y _ k.0, tt); shows = refl }
@@ -238,8 +239,8 @@ module _ (own : List ℕ) (blind : ℕ → ℕ → Bool) (g : Menu) (cpu : ℕ) 
   store_rest y c O.Idle k = record { all = tt; shows = refl }
 
   -- what an instruction does
-  effect_does : (x : World) (c : Ctx) (f : Effect) → Alike own blind x v
-      → KeepsToMenu own blind g x cpu (events_made (effect_acts x 0 cpu c f)) → Does x (effect_acts x 0 cpu c f)
+  effect_does : (x : World) (c : Ctx) (f : Effect) → Alike own look x v
+      → KeepsToMenu own look g x cpu (events_made (effect_acts x 0 cpu c f)) → Does x (effect_acts x 0 cpu c f)
   effect_does x c (F.Sets a n) h k = inl (set_unseen x _ k.0, tt)
   effect_does x c (F.Goes pc) h k = inl (set_unseen x _ k.0, tt)
   effect_does x c (F.Links a pc) h k = inl (set_unseen x _ k.0, tt)
@@ -263,21 +264,21 @@ module _ (own : List ℕ) (blind : ℕ → ℕ → Bool) (g : Menu) (cpu : ℕ) 
       (unseen_alike (E.SetContext cpu (at_next c) ∷ []) x v (m, tt) h) k.1.0 tt (append-nil _))
 
   -- a fetch, and what comes after it
-  pub fetch_does : (x : World) → Alike own blind x v
-      → KeepsToMenu own blind g x cpu (events_made (fetch_acts x 0 cpu)) → Does x (fetch_acts x 0 cpu)
+  pub fetch_does : (x : World) → Alike own look x v
+      → KeepsToMenu own look g x cpu (events_made (fetch_acts x 0 cpu)) → Does x (fetch_acts x 0 cpu)
   fetch_does x h k = by (outcome_of x (E.Fetch cpu)) refl k.0 k.1
     where
       y : World
       y = world_of x (E.Fetch cpu)
 
-      word : (u : ℕ) (o : Option Occupant) → Alike own blind y v
-          → KeepsToMenu own blind g y cpu (events_made (word_acts y 0 cpu u o)) → Does y (word_acts y 0 cpu u o)
+      word : (u : ℕ) (o : Option Occupant) → Alike own look y v
+          → KeepsToMenu own look g y cpu (events_made (word_acts y 0 cpu u o)) → Does y (word_acts y 0 cpu u o)
       word u None a k = inl tt
       word u (Some r) a k = effect_does y r.ctx (word_effect r.ctx u (instr_of u)) a k
 
       by : (o : Outcome) → outcome_of x (E.Fetch cpu) ≡ o
-          → IsUnseen own blind x (E.Fetch cpu) ⊎ IsOnMenu own blind g x cpu (E.Fetch cpu)
-          → KeepsToMenu own blind g y cpu (events_made (acts_after_fetch y 0 cpu o))
+          → IsUnseen own look x (E.Fetch cpu) ⊎ IsOnMenu own look g x cpu (E.Fetch cpu)
+          → KeepsToMenu own look g y cpu (events_made (acts_after_fetch y 0 cpu o))
           → Does x (Makes (E.Fetch cpu) ∷ acts_after_fetch y 0 cpu o)
       by (O.Word u) e (inl m) k = goes_on x (E.Fetch cpu) (word_acts y 0 cpu u (runs_on y cpu)) m
           (word u (runs_on y cpu) (unseen_alike (E.Fetch cpu ∷ []) x v (m, tt) h) k)

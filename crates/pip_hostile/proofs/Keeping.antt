@@ -37,7 +37,7 @@ use Rattle.pip_outside.proofs.Staying.{unseen_is_unseen}
 use Rattle.pip_outside.proofs.Turning.{runs_alike}
 use Rattle.pip_hostile.specs.Hostile.{ConfinedKeepsToMenu, ExitsAreOnMenu, IsNoWord, IsOnMenu, KeepsToMenu}
 
-module _ (own : List ℕ) (blind : ℕ → ℕ → Bool) (g : Menu) (cpu : ℕ) where
+module _ (own : List ℕ) (look : ℕ → ℕ → ℕ → ℕ) (g : Menu) (cpu : ℕ) where
   -- one of these partitions runs there, and is confined
   record Runs (w : World) : Type 0 where
     runner : Occupant
@@ -46,13 +46,13 @@ module _ (own : List ℕ) (blind : ℕ → ℕ → Bool) (g : Menu) (cpu : ℕ) 
     confined : IsConfined w.tree runner.name
 
   -- it does so after what nobody sees
-  still : (w : World) (e : Event) → Runs w → IsUnseen own blind w e → Runs (world_of w e)
+  still : (w : World) (e : Event) → Runs w → IsUnseen own look w e → Runs (world_of w e)
   still w e r m =
-      let a = alike_back own blind (world_of w e) w (unseen_is_unseen own blind w e m) in
+      let a = alike_back own look (world_of w e) w (unseen_is_unseen own look w e m) in
       by a (runs_on (world_of w e) cpu) refl
-      (subst (λ o. AlikeOn own o (runs_on (world_of w e) cpu)) r.there (runs_alike own blind w (world_of w e) cpu a))
+      (subst (λ o. AlikeOn own o (runs_on (world_of w e) cpu)) r.there (runs_alike own look w (world_of w e) cpu a))
     where
-      by : Alike own blind w (world_of w e) → (o : Option Occupant) → runs_on (world_of w e) cpu ≡ o
+      by : Alike own look w (world_of w e) → (o : Option Occupant) → runs_on (world_of w e) cpu ≡ o
           → AlikeOn own (Some r.runner) o → Runs (world_of w e)
       by a None k b = absurd b
       by a (Some q) k b = record {
@@ -60,27 +60,27 @@ module _ (own : List ℕ) (blind : ℕ → ℕ → Bool) (g : Menu) (cpu : ℕ) 
         there = k;
         own_is = subst (λ n. In n own) b.0 r.own_is;
         confined = subst (λ n. IsConfined (world_of w e).tree n) b.0
-            (confined_alike blind w.tree (world_of w e).tree r.runner.name a.tree r.confined);
+            (confined_alike look w.tree (world_of w e).tree r.runner.name a.tree r.confined);
       }
 
   -- an event stays inside, or is on the menu
   one : (w : World) (e : Event) → Runs w → IsMadeOn cpu e → ((r : Occupant) → runs_on w cpu ≡ Some r → In r.name own
-      → IsExit blind w r.name e → IsOnMenu own blind g w cpu e) → IsUnseen own blind w e ⊎ IsOnMenu own blind g w cpu e
-  one w e r m f = elim (confined_stays_or_exits own blind w cpu e r.runner r.there r.own_is r.confined m) [
+      → IsExit look w r.name e → IsOnMenu own look g w cpu e) → IsUnseen own look w e ⊎ IsOnMenu own look g w cpu e
+  one w e r m f = elim (confined_stays_or_exits own look w cpu e r.runner r.there r.own_is r.confined m) [
     | inl x ↦ inl x
     | inr x ↦ inr (f r.runner r.there r.own_is x)
   ]
 
-  set_unseen : (w : World) (c : Ctx) → Runs w → IsUnseen own blind w (E.SetContext cpu c)
+  set_unseen : (w : World) (c : Ctx) → Runs w → IsUnseen own look w (E.SetContext cpu c)
   set_unseen w c r = subst (λ o. ByOneOf own o (λ q. Unit {0})) (sym r.there) (r.own_is, tt)
 
   -- where an event is on the menu it gives no word
-  gave_none : (w : World) (e : Event) (u : ℕ) → outcome_of w e ≡ O.Word u → IsOnMenu own blind g w cpu e → ⊥
+  gave_none : (w : World) (e : Event) (u : ℕ) → outcome_of w e ≡ O.Word u → IsOnMenu own look g w cpu e → ⊥
   gave_none w e u q m = subst IsNoWord q m.word
 
   load_rest : (w : World) (e : Event) (c : Ctx) (a : ℕ) (o : Outcome) → outcome_of w e ≡ o → Runs w
-      → IsUnseen own blind w e ⊎ IsOnMenu own blind g w cpu e
-      → KeepsToMenu own blind g (world_of w e) cpu (events_made (load_acts 0 cpu c a o))
+      → IsUnseen own look w e ⊎ IsOnMenu own look g w cpu e
+      → KeepsToMenu own look g (world_of w e) cpu (events_made (load_acts 0 cpu c a o))
   load_rest w e c a (O.Word u) q r (inl m) = (inl (set_unseen (world_of w e) (with_register c a u) (still w e r m)), tt)
   load_rest w e c a (O.Word u) q r (inr m) = absurd (gave_none w e u q m)
   load_rest w e c a O.Done q r m = tt
@@ -106,7 +106,6 @@ module _ (own : List ℕ) (blind : ℕ → ℕ → Bool) (g : Menu) (cpu : ℕ) 
       leaf = r.confined.leaf;
       creates = r.confined.creates;
       other = r.confined.other;
-      alone = r.confined.alone;
       there = λ va h j z k. words h (h == g) (r.confined.there va h j z k);
     });
   }
@@ -122,7 +121,7 @@ module _ (own : List ℕ) (blind : ℕ → ℕ → Bool) (g : Menu) (cpu : ℕ) 
 
   store_rest : (w : World) (va : ℕ) (z : Size) (n : ℕ) (c : Ctx) (o : Outcome) → outcome_of w (E.Store cpu va z n) ≡ o
       → (r : Runs w)
-      → KeepsToMenu own blind g (world_of w (E.Store cpu va z n)) cpu (events_made (store_acts 0 cpu c o))
+      → KeepsToMenu own look g (world_of w (E.Store cpu va z n)) cpu (events_made (store_acts 0 cpu c o))
   store_rest w va z n c O.Done q r = (
     inl (set_unseen (world_of w (E.Store cpu va z n)) (at_next c)
         (stored w va z n r (reach w.tree r.runner.name va Store z) refl q)),
@@ -135,8 +134,8 @@ module _ (own : List ℕ) (blind : ℕ → ℕ → Bool) (g : Menu) (cpu : ℕ) 
   store_rest w va z n c O.Idle q r = tt
 
   keeps_effect : (w : World) (c : Ctx) (f : Effect) → Runs w
-      → ExitsAreOnMenu own blind g w cpu (events_made (effect_acts w 0 cpu c f))
-      → KeepsToMenu own blind g w cpu (events_made (effect_acts w 0 cpu c f))
+      → ExitsAreOnMenu own look g w cpu (events_made (effect_acts w 0 cpu c f))
+      → KeepsToMenu own look g w cpu (events_made (effect_acts w 0 cpu c f))
   keeps_effect w c (F.Sets a n) r x = (inl (set_unseen w (with_register c a n) r), tt)
   keeps_effect w c (F.Goes pc) r x = (inl (set_unseen w (record c { pc = pc }) r), tt)
   keeps_effect w c (F.Links a pc) r x = (inl (set_unseen w (with_link c a pc) r), tt)
@@ -168,8 +167,8 @@ module _ (own : List ℕ) (blind : ℕ → ℕ → Bool) (g : Menu) (cpu : ℕ) 
         ),
       )
 
-  keeps_fetch : (w : World) → Runs w → ExitsAreOnMenu own blind g w cpu (events_made (fetch_acts w 0 cpu))
-      → KeepsToMenu own blind g w cpu (events_made (fetch_acts w 0 cpu))
+  keeps_fetch : (w : World) → Runs w → ExitsAreOnMenu own look g w cpu (events_made (fetch_acts w 0 cpu))
+      → KeepsToMenu own look g w cpu (events_made (fetch_acts w 0 cpu))
   keeps_fetch w r x =
       let m = one w (E.Fetch cpu) r refl x.0 in (m, go (outcome_of w (E.Fetch cpu)) refl m x.1)
     where
@@ -177,15 +176,15 @@ module _ (own : List ℕ) (blind : ℕ → ℕ → Bool) (g : Menu) (cpu : ℕ) 
       y = world_of w (E.Fetch cpu)
 
       word : (u : ℕ) (o : Option Occupant) → Runs y
-          → ExitsAreOnMenu own blind g y cpu (events_made (word_acts y 0 cpu u o))
-          → KeepsToMenu own blind g y cpu (events_made (word_acts y 0 cpu u o))
+          → ExitsAreOnMenu own look g y cpu (events_made (word_acts y 0 cpu u o))
+          → KeepsToMenu own look g y cpu (events_made (word_acts y 0 cpu u o))
       word u None q x = tt
       word u (Some z) q x = keeps_effect y z.ctx (word_effect z.ctx u (instr_of u)) q x
 
-      go : (o : Outcome) → outcome_of w (E.Fetch cpu) ≡ o → IsUnseen own blind w (E.Fetch cpu)
-          ⊎ IsOnMenu own blind g w cpu
-          (E.Fetch cpu) → ExitsAreOnMenu own blind g y cpu (events_made (acts_after_fetch y 0 cpu o))
-          → KeepsToMenu own blind g y cpu (events_made (acts_after_fetch y 0 cpu o))
+      go : (o : Outcome) → outcome_of w (E.Fetch cpu) ≡ o → IsUnseen own look w (E.Fetch cpu)
+          ⊎ IsOnMenu own look g w cpu
+          (E.Fetch cpu) → ExitsAreOnMenu own look g y cpu (events_made (acts_after_fetch y 0 cpu o))
+          → KeepsToMenu own look g y cpu (events_made (acts_after_fetch y 0 cpu o))
       go (O.Word u) q (inl m) x = word u (runs_on y cpu) (still w (E.Fetch cpu) r m) x
       go (O.Word u) q (inr m) x = absurd (gave_none w (E.Fetch cpu) u q m)
       go O.Done q m x = tt
@@ -195,5 +194,5 @@ module _ (own : List ℕ) (blind : ℕ → ℕ → Bool) (g : Menu) (cpu : ℕ) 
       go O.Idle q m x = tt
 
 pub confined_keeps_to_menu : ConfinedKeepsToMenu
-confined_keeps_to_menu own blind g w cpu r k i c x vain =
-    keeps_fetch own blind g cpu w (record { runner = r; there = k; own_is = i; confined = c }) (x vain)
+confined_keeps_to_menu own look g w cpu r k i c x vain =
+    keeps_fetch own look g cpu w (record { runner = r; there = k; own_is = i; confined = c }) (x vain)

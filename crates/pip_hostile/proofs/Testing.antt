@@ -11,9 +11,12 @@ use Rattle.pip_every.specs.declared.menus.Deed.TheVariants as D
 use Rattle.pip_every.specs.declared.menus.May.{May}
 use Rattle.pip_hostile.specs.Hostile.{DeedAnswers}
 use Rattle.pip_every.specs.Away as H
-use Rattle.pip_hostile.specs.Tests.{IsPassed, TestsPass}
+use Rattle.pip_hostile.specs.Tests.{TestsPass}
+use Rattle.pip_hostile.specs.Passing as P
+use Rattle.pip_outside.specs.Sights.{IsSight, Sight}
+use Rattle.pip_outside.specs.Sights as S
 use Rattle.pip_outside.specs.Tests as T
-use Rattle.pip_outside.proofs.Testing.{all_read, both, confined, not_both, off, one, reads}
+use Rattle.pip_outside.proofs.Testing.{all_read, both, confined, is_but, not_both, off, one, reads}
 use Rattle.pip_model.specs.Acts.{events_made}
 use Rattle.pip_model.specs.Events as E
 use Rattle.pip_model.specs.Handlers.{is_reached}
@@ -24,11 +27,11 @@ use Rattle.pip_model.specs.Turn.{turn}
 use Rattle.pip_model.specs.Worlds.{IsSoundWorld, World, runs_on}
 use Rattle.pip_model.specs.declared.processors.Occupant.{Occupant}
 use Rattle.pip_outside.specs.Exits.{IsConfined}
-use Rattle.pip_outside.specs.Outside.{ReadsOutside}
+use Rattle.pip_outside.specs.Outside.{ReadsOutside, seen_but}
 use Rattle.pip_outside.specs.Unseen.{Answers}
 use Rattle.pip_hostile.proofs.Choosing.{nobody_hostile}
 
-module _ (own : List ℕ) (blind : ℕ → ℕ → Bool) where
+module _ (own : List ℕ) (look : ℕ → ℕ → ℕ → ℕ) (s : Sight) (is : IsSight own look s) where
   -- ---- a state
 
   module _ (w : World) (cpu : ℕ) where
@@ -36,7 +39,7 @@ module _ (own : List ℕ) (blind : ℕ → ℕ → Bool) where
     answers (D.Load va z) e r k = (
       r,
       k,
-      by (reach w.tree r.name va Load z) (subst (λ o. T.if_one_runs o (λ r. is_reached (reach w.tree r.name va Load z))
+      by (reach w.tree r.name va Load z) (subst (λ o. S.if_runs o (λ r. is_reached (reach w.tree r.name va Load z))
           ≡ true) k e),
     )
       where
@@ -48,9 +51,9 @@ module _ (own : List ℕ) (blind : ℕ → ℕ → Bool) where
     answers (D.Trap v x y) e r k = cc
     answers (D.Call n args) e r k = cc
 
-    deeds : (ds : List May) → H.deeds_read_outside own blind w cpu ds ≡ true → (r : Occupant) → runs_on w cpu ≡ Some r
+    deeds : (ds : List May) → P.deeds_pass own s w cpu ds ≡ true → (r : Occupant) → runs_on w cpu ≡ Some r
         → (place : ℕ) (d : May) → slice_get ds place ≡ Some d → is_its w.tree.root.name (name_on w cpu) d ≡ true
-        → (DeedAnswers w cpu d.deed → ⊥) → ReadsOutside own blind w (deed_event cpu d.deed)
+        → (DeedAnswers w cpu d.deed → ⊥) → ReadsOutside own look w (deed_event cpu d.deed)
     deeds [] e r k place d at its n = cc
     deeds (x ∷ ds) e r k zero d at its n =
         let h = both _ _ e in
@@ -59,35 +62,36 @@ module _ (own : List ℕ) (blind : ℕ → ℕ → Bool) where
           | inl y ↦ absurd (not_both _ (off _ y) (ap (is_its w.tree.root.name (name_on w cpu)) q ∙ its))
           | inr y ↦ elim (one _ _ y) [
             | inl z ↦ absurd (n (subst (λ m. DeedAnswers w cpu m.deed) q (answers x.deed z r k)))
-            | inr z ↦ subst (λ m. ReadsOutside own blind w (deed_event cpu m.deed)) q
-                (reads own blind w (deed_event cpu x.deed) z)
+            | inr z ↦ subst (λ m. ReadsOutside own look w (deed_event cpu m.deed)) q
+                (reads own look s is w (deed_event cpu x.deed) z)
           ]
         ]
     deeds (x ∷ ds) e r k (suc place) d at its n = let h = both _ _ e in deeds ds h.1 r k place d at its n
 
-module _ (own : List ℕ) (blind : ℕ → ℕ → Bool) (g : Menu) (w : World) (cpu : ℕ) (s : IsSoundWorld w) where
+module _ (own : List ℕ) (look : ℕ → ℕ → ℕ → ℕ) (s : Sight) (is : IsSight own look s) (g : Menu) (w : World) (cpu : ℕ)
+    (sound : IsSoundWorld w) where
   abbrev hostile : Bool
   hostile = is_hostile w.tree.root.name (name_on w cpu) g.may
 
-  hostile_passes : hostile ≡ true → (T.reads_outside own blind w (E.Poll cpu)
-      && ((not (H.is_vain (event w (E.Poll cpu)).outcome) || H.deeds_read_outside own blind w cpu g.may)
-      && T.if_one_runs (runs_on w cpu) (T.is_confined own w.tree))) ≡ true → IsPassed own blind g w cpu
+  hostile_passes : hostile ≡ true → (S.event_passes own s w (E.Poll cpu)
+      && ((not (H.is_vain (event w (E.Poll cpu)).outcome) || P.deeds_pass own s w cpu g.may)
+      && S.if_runs (runs_on w cpu) (T.is_confined own w.tree))) ≡ true → P.HasPassed own look g w cpu
   hostile_passes q e = by (runs_on w cpu) refl
     where
-      by : (o : Option Occupant) → runs_on w cpu ≡ o → IsPassed own blind g w cpu
+      by : (o : Option Occupant) → runs_on w cpu ≡ o → P.HasPassed own look g w cpu
       by None k = absurd (nobody_hostile w.tree.root.name g.may
           (sym (ap (λ o. is_hostile w.tree.root.name (option_map (λ r. r.name) o) g.may) k) ∙ q))
       by (Some r) k =
           let a = both _ _ e in
           let b = both _ _ a.1 in
-          let c = confined own w cpu r s k (subst (λ o. T.if_one_runs o (T.is_confined own w.tree) ≡ true) k b.1) in
+          let c = confined own w cpu r sound k (subst (λ o. S.if_runs o (T.is_confined own w.tree) ≡ true) k b.1) in
           record {
             away = record {
               turn = λ f. absurd (not_both _ f q);
-              poll = λ h. reads own blind w (E.Poll cpu) a.0;
+              poll = λ h. reads own look s is w (E.Poll cpu) a.0;
               deeds = λ h vain place d at its n. elim (one _ _ b.0) [
                 | inl x ↦ absurd (not_both _ (off _ x) (ap (λ h. H.is_vain h.outcome) vain))
-                | inr x ↦ deeds own blind w cpu g.may x r k place d at its n
+                | inr x ↦ deeds own look s is w cpu g.may x r k place d at its n
               ];
             };
             confined = λ p named h.
@@ -96,23 +100,39 @@ module _ (own : List ℕ) (blind : ℕ → ℕ → Bool) (g : Menu) (w : World) 
                 (subst (λ n. In n own) d c.0, subst (IsConfined w.tree) d c.1);
           }
 
-  outside_passes : hostile ≡ false → T.all_read_outside own blind w (events_made (turn w cpu 0)) ≡ true
-      → IsPassed own blind g w cpu
+  outside_passes : hostile ≡ false → S.events_pass own s w (events_made (turn w cpu 0)) ≡ true
+      → P.HasPassed own look g w cpu
   outside_passes q e = record {
     away = record {
-      turn = λ f. all_read own blind (events_made (turn w cpu 0)) w e;
+      turn = λ f. all_read own look s is (events_made (turn w cpu 0)) w e;
       poll = λ h. absurd (not_both _ q h);
       deeds = λ h vain place d at its n. absurd (not_both _ q h);
     };
     confined = λ p named h. absurd (not_both _ q h);
   }
 
-pub tests_pass : TestsPass
-tests_pass own blind g w cpu s e = by (hostile own blind g w cpu s) refl e
+pub states_pass : P.StatesPass
+states_pass own look s g w cpu is sound e = by (hostile own look s is g w cpu sound) refl e
   where
-    by : (b : Bool) → hostile own blind g w cpu s ≡ b → cond b (T.reads_outside own blind w (E.Poll cpu)
-        && ((not (H.is_vain (event w (E.Poll cpu)).outcome) || H.deeds_read_outside own blind w cpu g.may)
-        && T.if_one_runs (runs_on w cpu) (T.is_confined own w.tree)))
-        (T.all_read_outside own blind w (events_made (turn w cpu 0))) ≡ true → IsPassed own blind g w cpu
-    by true q e = hostile_passes own blind g w cpu s q e
-    by false q e = outside_passes own blind g w cpu s q e
+    by : (b : Bool) → hostile own look s is g w cpu sound ≡ b
+        → cond b (P.hostile_passes own s g.may w cpu) (S.events_pass own s w (events_made (turn w cpu 0))) ≡ true
+        → P.HasPassed own look g w cpu
+    by true q e = hostile_passes own look s is g w cpu sound q e
+    by false q e = outside_passes own look s is g w cpu sound q e
+
+-- words that are left out
+deeds_same : (own : List ℕ) (blind : ℕ → ℕ → Bool) (w : World) (cpu : ℕ) (ds : List May)
+    → P.deeds_pass own (T.but blind) w cpu ds ≡ H.deeds_read_outside own blind w cpu ds
+deeds_same own blind w cpu [] = refl
+deeds_same own blind w cpu (d ∷ ds) = ap (λ b. (not (is_its w.tree.root.name (name_on w cpu) d)
+    || (H.deed_answers w cpu d.deed || T.reads_outside own blind w (deed_event cpu d.deed))) && b)
+    (deeds_same own blind w cpu ds)
+
+pub tests_pass : TestsPass
+tests_pass own blind g w cpu sound e =
+    let p = states_pass own (seen_but blind) (T.but blind) g w cpu (is_but own blind) sound
+    (ap (λ b. cond (is_hostile w.tree.root.name (name_on w cpu) g.may) (T.reads_outside own blind w (E.Poll cpu)
+    && ((not (H.is_vain (event w (E.Poll cpu)).outcome) || b)
+    && T.if_one_runs (runs_on w cpu) (T.is_confined own w.tree)))
+    (T.all_read_outside own blind w (events_made (turn w cpu 0)))) (deeds_same own blind w cpu g.may) ∙ e) in
+    record { away = p.away; confined = p.confined }

@@ -1,2 +1,3 @@
 pub mod Hostile
 pub mod Tests
+pub mod Passing

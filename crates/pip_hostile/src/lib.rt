@@ -3,9 +3,10 @@
 #![tactic(auto)]
 
 ghost use Rattle.pip_hostile.specs.Hostile.{CallsAreOnMenu, ConfinedKeepsToMenu, FetchFaultsAreOnMenu};
-ghost use Rattle.pip_hostile.specs.Hostile.{LoadFaultsAreOnMenu, MasksReadNone, StoreFaultsAreOnMenu};
+ghost use Rattle.pip_hostile.specs.Hostile.{LoadFaultsAreOnMenu, MasksReadNone, StoreFaultsAreOnMenu, StoresAreOnMenu};
 ghost use Rattle.pip_hostile.specs.Hostile.{TrapsAreOnMenu, TurnsHaveChoices, UntakenAreOnMenu, YieldsAreOnMenu};
 ghost use Rattle.pip_hostile.specs.Hostile.{YieldsReadThree};
+ghost use Rattle.pip_hostile.specs.Passing.{StatesPass};
 ghost use Rattle.pip_hostile.specs.Tests.{TestsPass};
 
 /// Each turn of a world has a choice at a moment that looks like this world: it shows the same, or the turn stays
@@ -14,6 +15,7 @@ pub fn law_hostile()
     ensures turns { TurnsHaveChoices }
     ensures confined { ConfinedKeepsToMenu }
     ensures tested { TestsPass }
+    ensures passed { StatesPass }
 {}
 
 /// Which events are on a menu.
@@ -27,4 +29,5 @@ pub fn law_menus()
     ensures yields { YieldsReadThree }
     ensures masks { MasksReadNone }
     ensures saves { YieldsAreOnMenu }
+    ensures words { StoresAreOnMenu }
 {}

@@ -1,5 +1,5 @@
 -- Worlds that look alike: the relation, both ways and one after another.
-use Rattle.std.proofs.Common.{ℕ, Bool, List, [], ◌∷◌, refl, sym, ap, ◌∙◌, subst, Option, Some, None}
+use Rattle.std.proofs.Common.{ℕ, List, [], ◌∷◌, refl, sym, ap, ◌∙◌, subst, Option, Some, None}
 use Rattle.pip_model.specs.Lists.{In}
 use Rattle.pip_model.specs.Tree.{Tree}
 use Rattle.pip_model.specs.Worlds.{World}
@@ -7,39 +7,39 @@ use Rattle.pip_model.specs.declared.processors.Occupant.{Occupant}
 use Rattle.pip_outside.specs.Outside.{Alike, AlikeCpus, AlikeOn, AlikeTrees, AlikeWord}
 use Rattle.pip_outside.proofs.Runners.{cpus_alike_back, cpus_alike_same}
 
-pub word_alike_same : (blind : ℕ → ℕ → Bool) (g : ℕ) (o : Option (ℕ → ℕ)) → AlikeWord blind g o o
-word_alike_same blind g o = record { there = refl; words = λ i v. refl }
+pub word_alike_same : (look : ℕ → ℕ → ℕ → ℕ) (g : ℕ) (o : Option (ℕ → ℕ)) → AlikeWord look g o o
+word_alike_same look g o = record { there = refl; words = λ i. refl }
 
 -- the same tree
-pub tree_alike_same : (blind : ℕ → ℕ → Bool) (t : Tree) → AlikeTrees blind t t
-tree_alike_same blind t = record { nodes = refl; words = λ g. word_alike_same blind g (t.words g) }
+pub tree_alike_same : (look : ℕ → ℕ → ℕ → ℕ) (t : Tree) → AlikeTrees look t t
+tree_alike_same look t = record { nodes = refl; words = λ g. word_alike_same look g (t.words g) }
 
-pub alike_same : (own : List ℕ) (blind : ℕ → ℕ → Bool) (w : World) → Alike own blind w w
-alike_same own blind w =
+pub alike_same : (own : List ℕ) (look : ℕ → ℕ → ℕ → ℕ) (w : World) → Alike own look w w
+alike_same own look w =
     record {
       tree = record {
         nodes = refl;
-        words = λ g. word_alike_same blind g (w.tree.words g);
+        words = λ g. word_alike_same look g (w.tree.words g);
       };
       cpus = cpus_alike_same own w.cpus;
     }
 
-pub trees_back : (blind : ℕ → ℕ → Bool) (t u : Tree) → AlikeTrees blind t u → AlikeTrees blind u t
-trees_back blind t u a = record {
+pub trees_back : (look : ℕ → ℕ → ℕ → ℕ) (t u : Tree) → AlikeTrees look t u → AlikeTrees look u t
+trees_back look t u a = record {
   nodes = sym (ap {A = Tree} (λ x. record x { words = t.words }) a.nodes);
-  words = λ g. record { there = sym (a.words g).there; words = λ i v. sym ((a.words g).words i v) };
+  words = λ g. record { there = sym (a.words g).there; words = λ i. sym ((a.words g).words i) };
 }
 
-pub alike_back : (own : List ℕ) (blind : ℕ → ℕ → Bool) (w v : World) → Alike own blind w v → Alike own blind v w
-alike_back own blind w v a =
-    record { tree = trees_back blind w.tree v.tree a.tree; cpus = cpus_alike_back own w.cpus v.cpus a.cpus }
+pub alike_back : (own : List ℕ) (look : ℕ → ℕ → ℕ → ℕ) (w v : World) → Alike own look w v → Alike own look v w
+alike_back own look w v a =
+    record { tree = trees_back look w.tree v.tree a.tree; cpus = cpus_alike_back own w.cpus v.cpus a.cpus }
 
-trees_on : (blind : ℕ → ℕ → Bool) (t u x : Tree) → AlikeTrees blind t u → AlikeTrees blind u x → AlikeTrees blind t x
-trees_on blind t u x a b = record {
+pub trees_on : (look : ℕ → ℕ → ℕ → ℕ) (t u x : Tree) → AlikeTrees look t u → AlikeTrees look u x → AlikeTrees look t x
+trees_on look t u x a b = record {
   nodes = ap {A = Tree} (λ y. record y { words = x.words }) a.nodes ∙ b.nodes;
   words = λ g. record {
     there = (a.words g).there ∙ (b.words g).there;
-    words = λ i v. (a.words g).words i v ∙ (b.words g).words i v;
+    words = λ i. (a.words g).words i ∙ (b.words g).words i;
   };
 }
 
@@ -61,9 +61,9 @@ cpus_on own (o ∷ os) [] qs a b = absurd a
 cpus_on own (o ∷ os) (p ∷ ps) [] a b = absurd b
 cpus_on own (o ∷ os) (p ∷ ps) (q ∷ qs) a b = (on_alike_on own o p q a.0 b.0, cpus_on own os ps qs a.1 b.1)
 
-pub alike_on : (own : List ℕ) (blind : ℕ → ℕ → Bool) (w v x : World) → Alike own blind w v → Alike own blind v x
-    → Alike own blind w x
-alike_on own blind w v x a b = record {
-  tree = trees_on blind w.tree v.tree x.tree a.tree b.tree;
+pub alike_on : (own : List ℕ) (look : ℕ → ℕ → ℕ → ℕ) (w v x : World) → Alike own look w v → Alike own look v x
+    → Alike own look w x
+alike_on own look w v x a b = record {
+  tree = trees_on look w.tree v.tree x.tree a.tree b.tree;
   cpus = cpus_on own w.cpus v.cpus x.cpus a.cpus b.cpus;
 }

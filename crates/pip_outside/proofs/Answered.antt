@@ -1,4 +1,4 @@
--- What calls on memory answer where words of some blind differ.
+-- What calls on memory answer where words differ in what isn't seen of them.
 use Rattle.std.proofs.Common.{◌≡◌, ℕ, zero, suc, ◌==◌, Bool, true, false, cond, List, [], ◌∷◌, refl, ap, ◌∙◌, subst}
 use Rattle.std.proofs.Common.{Option, Some, None}
 use Rattle.pip_base.specs.declared.outcome.Status.{Status}
@@ -21,53 +21,53 @@ use Rattle.pip_model.specs.Prepare.{prepare_with, tree_with_table}
 use Rattle.pip_model.specs.Tree.{Tree, config, vpage}
 use Rattle.pip_outside.specs.Outside.{AlikeTrees, AlikeWord, ChainMisses}
 
--- two answers are one, and the trees differ in words of these blind alone
-pub record AlikeAnswers (blind : ℕ → ℕ → Bool) (a b : Answer) : Type 0 where
+-- two answers are one, and the trees differ in what isn't seen of words alone
+pub record AlikeAnswers (look : ℕ → ℕ → ℕ → ℕ) (a b : Answer) : Type 0 where
   pub status : a.status ≡ b.status
   pub value : a.value ≡ b.value
-  pub tree : AlikeTrees blind a.tree b.tree
+  pub tree : AlikeTrees look a.tree b.tree
 
-module _ (blind : ℕ → ℕ → Bool) (t : Tree) (u : ℕ → Option (ℕ → ℕ)) (h : (g : ℕ) → AlikeWord blind g (t.words g) (u g))
+module _ (look : ℕ → ℕ → ℕ → ℕ) (t : Tree) (u : ℕ → Option (ℕ → ℕ)) (h : (g : ℕ) → AlikeWord look g (t.words g) (u g))
   where
     -- the same tree with other words
     abbrev other : Tree
     other = record t { words = u }
 
-    same : AlikeTrees blind t other
+    same : AlikeTrees look t other
     same = record { nodes = refl; words = h }
 
-    unless : (o : Option Status) (a b : Answer) → AlikeAnswers blind a b
-        → AlikeAnswers blind (answer_unless t o a) (answer_unless other o b)
+    unless : (o : Option Status) (a b : Answer) → AlikeAnswers look a b
+        → AlikeAnswers look (answer_unless t o a) (answer_unless other o b)
     unless None a b k = k
     unless (Some s) a b k = record { status = refl; value = refl; tree = same }
 
     -- of two words, or two that are alike
-    either : (g : ℕ) (b : Bool) (x : Option (ℕ → ℕ)) (o p : Option (ℕ → ℕ)) → AlikeWord blind g o p
-        → AlikeWord blind g (cond b x o) (cond b x p)
-    either g true x o p a = record { there = refl; words = λ i v. refl }
+    either : (g : ℕ) (b : Bool) (x : Option (ℕ → ℕ)) (o p : Option (ℕ → ℕ)) → AlikeWord look g o p
+        → AlikeWord look g (cond b x o) (cond b x p)
+    either g true x o p a = record { there = refl; words = λ i. refl }
     either g false x o p a = a
 
-    without : (gs : List ℕ) (g : ℕ) → AlikeWord blind g (words_without gs t.words g) (words_without gs u g)
+    without : (gs : List ℕ) (g : ℕ) → AlikeWord look g (words_without gs t.words g) (words_without gs u g)
     without gs g = either g (has gs g) None (t.words g) (u g) (h g)
 
-    cleared : (gs : List ℕ) (g : ℕ) → AlikeWord blind g (words_cleared gs t.words g) (words_cleared gs u g)
+    cleared : (gs : List ℕ) (g : ℕ) → AlikeWord look g (words_cleared gs t.words g) (words_cleared gs u g)
     cleared gs g = either g (has gs g) (Some zero_words) (t.words g) (u g) (h g)
 
-    chained : (gs : List Pair) (g : ℕ) → AlikeWord blind g (words_with_chain gs t.words g) (words_with_chain gs u g)
+    chained : (gs : List Pair) (g : ℕ) → AlikeWord look g (words_with_chain gs t.words g) (words_with_chain gs u g)
     chained [] g = h g
     chained (p ∷ gs) g = either g (p.frame == g) (Some (chain_word (first_va gs))) (words_with_chain gs t.words g)
         (words_with_chain gs u g) (chained gs g)
 
-    chain_same : (p k : ℕ) (seen : List ℕ) (a : ℕ) → ChainMisses blind t p k seen a
+    chain_same : (p k : ℕ) (seen : List ℕ) (a : ℕ) → ChainMisses look t p k seen a
         → page_chain t p k seen a ≡ page_chain other p k seen a
     chain_same p zero seen a m = refl
     chain_same p (suc zero) seen a m = refl
     chain_same p (suc (suc k)) seen a m =
         ap (go_on (first_met (page_refusals t p seen a)) (pair_at t p a))
         (chain_same p (suc k) (a ∷ seen) (next_in_chain t p a) m.1
-        ∙ ap (page_chain other p (suc k) (a ∷ seen)) ((h (page_of t p a)).words 0 m.0))
+        ∙ ap (page_chain other p (suc k) (a ∷ seen)) (m.0 _ _ ((h (page_of t p a)).words 0)))
 
-    table_alike : (c i : ℕ) (gs : List Pair) → AlikeTrees blind (tree_with_table t c i gs)
+    table_alike : (c i : ℕ) (gs : List Pair) → AlikeTrees look (tree_with_table t c i gs)
         (tree_with_table other c i gs)
     table_alike c i [] = same
     table_alike c i (g0 ∷ []) = same
@@ -75,23 +75,23 @@ module _ (blind : ℕ → ℕ → Bool) (t : Tree) (u : ℕ → Option (ℕ → 
     table_alike c i (g0 ∷ g1 ∷ g2 ∷ gs) =
         record { nodes = refl; words = without (pair_frames (g0 ∷ g1 ∷ g2 ∷ gs)) }
 
-    prepared : (c v k : ℕ) (q : PageChain) → AlikeAnswers blind (prepare_with t c v k q) (prepare_with other c v k q)
+    prepared : (c v k : ℕ) (q : PageChain) → AlikeAnswers look (prepare_with t c v k q) (prepare_with other c v k q)
     prepared c v k (Refused s) = record { status = refl; value = refl; tree = same }
     prepared c v k (Pages gs) = record { status = refl; value = refl; tree = table_alike c _ gs }
 
     pub prepare_alike : (p : ℕ) (a : Five)
-        → ChainMisses blind t p (pages_needed (child_of t p a.x0) (vpage a.x1)) [] a.x2
-        → AlikeAnswers blind (prepare t p a.x0 a.x1 a.x2) (prepare other p a.x0 a.x1 a.x2)
+        → ChainMisses look t p (pages_needed (child_of t p a.x0) (vpage a.x1)) [] a.x2
+        → AlikeAnswers look (prepare t p a.x0 a.x1 a.x2) (prepare other p a.x0 a.x1 a.x2)
     prepare_alike p a m =
         let k = pages_needed (child_of t p a.x0) (vpage a.x1) in
         let c = child_name t p a.x0 in
         let v = vpage a.x1 in
         unless (first_met (count_refusals t p a.x0 a.x1)) (prepare_with t c v k (page_chain t p k [] a.x2))
         (prepare_with other c v k (page_chain other p k [] a.x2))
-        (subst (λ q. AlikeAnswers blind (prepare_with t c v k (page_chain t p k [] a.x2)) (prepare_with other c v k q))
+        (subst (λ q. AlikeAnswers look (prepare_with t c v k (page_chain t p k [] a.x2)) (prepare_with other c v k q))
         (chain_same p k [] a.x2 m) (prepared c v k (page_chain t p k [] a.x2)))
 
-    pub collect_alike : (p : ℕ) (a : Five) → AlikeAnswers blind (collect t p a.x0 a.x1) (collect other p a.x0 a.x1)
+    pub collect_alike : (p : ℕ) (a : Five) → AlikeAnswers look (collect t p a.x0 a.x1) (collect other p a.x0 a.x1)
     collect_alike p a =
         let x = child_of t p a.x0 in
         let gs = returned_pages x (table_for x (vpage a.x1)) in
@@ -99,11 +99,11 @@ module _ (blind : ℕ → ℕ → Bool) (t : Tree) (u : ℕ → Option (ℕ → 
         (record { status = refl; value = refl; tree = record { nodes = refl; words = chained gs } })
 
     pub delete_alike : (rs : List ℕ) (p d : ℕ)
-        → AlikeAnswers blind (delete_partition t rs p d) (delete_partition other rs p d)
+        → AlikeAnswers look (delete_partition t rs p d) (delete_partition other rs p d)
     delete_alike rs p d = unless (first_met (delete_refusals t rs p d)) _ _
         (record { status = refl; value = refl; tree = record { nodes = refl; words = cleared _ } })
 
-    pub create_alike : (p : ℕ) (a : Five) → AlikeAnswers blind (create_partition t p a) (create_partition other p a)
+    pub create_alike : (p : ℕ) (a : Five) → AlikeAnswers look (create_partition t p a) (create_partition other p a)
     create_alike p a = unless (first_met (create_refusals t p a)) _ _
         (record {
           status = refl;
@@ -114,21 +114,21 @@ module _ (blind : ℕ → ℕ → Bool) (t : Tree) (u : ℕ → Option (ℕ → 
           };
         })
 
-    pub count_alike : (p : ℕ) (a : Five) → AlikeAnswers blind (count_to_map t p a.x0 a.x1)
+    pub count_alike : (p : ℕ) (a : Five) → AlikeAnswers look (count_to_map t p a.x0 a.x1)
         (count_to_map other p a.x0 a.x1)
     count_alike p a = unless (first_met (count_refusals t p a.x0 a.x1)) _ _
         (record { status = refl; value = refl; tree = same })
 
     pub add_alike : (p : ℕ) (a : Five)
-        → AlikeAnswers blind (add_vaddr t p a.x0 a.x1 a.x2 a.x3) (add_vaddr other p a.x0 a.x1 a.x2 a.x3)
+        → AlikeAnswers look (add_vaddr t p a.x0 a.x1 a.x2 a.x3) (add_vaddr other p a.x0 a.x1 a.x2 a.x3)
     add_alike p a = unless (first_met (add_refusals t p a.x0 a.x1 a.x2 a.x3)) _ _
         (record { status = refl; value = refl; tree = record { nodes = refl; words = h } })
 
     pub remove_alike : (p : ℕ) (a : Five)
-        → AlikeAnswers blind (remove_vaddr t p a.x0 a.x1) (remove_vaddr other p a.x0 a.x1)
+        → AlikeAnswers look (remove_vaddr t p a.x0 a.x1) (remove_vaddr other p a.x0 a.x1)
     remove_alike p a = unless (first_met (remove_refusals t p a.x0 a.x1)) _ _
         (record { status = refl; value = refl; tree = record { nodes = refl; words = h } })
 
-    pub mapped_alike : (p : ℕ) (a : Five) → AlikeAnswers blind (mapped_in_child t p a.x0) (mapped_in_child other p a.x0)
+    pub mapped_alike : (p : ℕ) (a : Five) → AlikeAnswers look (mapped_in_child t p a.x0) (mapped_in_child other p a.x0)
     mapped_alike p a = unless (first_met (find_refusals t p a.x0)) _ _
         (record { status = refl; value = refl; tree = same })

@@ -1,9 +1,9 @@
 -- A partition that is confined: what it does stays inside, or is one of a few exits.
 use Rattle.std.proofs.Common.{◌≡◌, ◌≢◌, ℕ, zero, suc, ◌<◌, ◌≤◌, arith, ◌==◌, ◌&&◌, ◌⊎◌, inl, inr, Bool, true, false}
 use Rattle.std.proofs.Common.{cond, List, [], ◌∷◌, map, not}
-use Rattle.std.proofs.Common.{refl, sym, ap, ap₂, ◌∙◌, ◌||◌, subst, eqb-true, Option, Some, None}
+use Rattle.std.proofs.Common.{refl, sym, ap, ◌∙◌, ◌||◌, subst, Option, Some, None}
 use Rattle.std.specs.Prelude.{◌+◌, ◌-◌, is_none, is_some, nat_le, nat_lt, option_map}
-use Rattle.std.proofs.lemmas.Bool.{cases_eq, leb-true, ltb-true, ne_eqb}
+use Rattle.std.proofs.lemmas.Bool.{cases_eq, ne_eqb}
 use Rattle.pip_base.specs.declared.outcome.Status.{Status}
 use Rattle.pip_base.specs.declared.outcome.Status.TheVariants as S
 use Rattle.pip_base.specs.declared.types.Access.{Access}
@@ -21,8 +21,8 @@ use Rattle.pip_model.specs.CreatePartition.{create_refusals, tree_with_newborn}
 use Rattle.pip_model.specs.DeletePartition.{delete_refusals, some_run, tree_without_subtree}
 use Rattle.pip_model.specs.Events.{Event}
 use Rattle.pip_model.specs.Events as E
-use Rattle.pip_model.specs.Handlers.{can_save, context_word, handler, written_block}
-use Rattle.pip_model.specs.Happens.{answer, call, call_named, on_running, what_happens}
+use Rattle.pip_model.specs.Handlers.{can_save, context_word, handler, saved_to, written_block}
+use Rattle.pip_model.specs.Happens.{answer, call, call_named, on_running, what_happens, written_over}
 use Rattle.pip_model.specs.Lists.{In, has}
 use Rattle.pip_model.specs.MappedInChild.{find_refusals, holder_born}
 use Rattle.pip_model.specs.Prepare.{page_chain, prepare_with}
@@ -30,8 +30,9 @@ use Rattle.pip_model.specs.Reach.{Faulted, Place, Reached, reach}
 use Rattle.pip_model.specs.RemoveVAddr.{remove_refusals, tree_without_row}
 use Rattle.pip_model.specs.Switching.{node_name, reply_unless, target_node, with_zeros, yield_happens, yield_to}
 use Rattle.pip_model.specs.Switching.{yield_place, yield_refusals, yielded_tree}
-use Rattle.pip_model.specs.Tree.{Node, Tree, below, dir, free, has_table, holder, is_place, row_at, vpage}
-use Rattle.pip_model.specs.Worlds.{Happened, World, ctx_of, ctx_on, masked_node, running, runs_on, with_masked}
+use Rattle.pip_model.specs.Tree.{Node, Tree, below, child_at, word_of, dir, free, has_table, holder, is_place, row_at}
+use Rattle.pip_model.specs.Tree.{vpage}
+use Rattle.pip_model.specs.Worlds.{Happened, World, ctx_of, ctx_on, masked_node, running, runs_on}
 use Rattle.pip_model.specs.declared.call_name.CallName.{CallName}
 use Rattle.pip_model.specs.declared.call_name.CallName.TheVariants.{Masks, OnMemory, Unknown, Yields}
 use Rattle.pip_model.specs.declared.call_name.MemoryCall.{MemoryCall}
@@ -40,19 +41,20 @@ use Rattle.pip_model.specs.declared.call_name.MemoryCall.TheVariants.{DeletePart
 use Rattle.pip_model.specs.declared.call_name.MemoryCall.TheVariants.{RemoveVAddr}
 use Rattle.pip_model.specs.declared.processors.Occupant.{Occupant}
 use Rattle.pip_outside.specs.Exits.{ConfinedAlike, ConfinedStaysOrExits, Faults, GoesAway, IsConfined, IsExit, IsMadeOn}
-use Rattle.pip_outside.specs.Exits.{IsSeen}
+use Rattle.pip_outside.specs.Exits.{IsSeen, MasksAreUnseen}
 use Rattle.pip_outside.specs.Exits.{SaveIsSeen, SoundConfines}
-use Rattle.pip_outside.specs.Outside.{AlikeTrees, AlikeWord, Lands}
+use Rattle.pip_outside.specs.Outside.{AlikeTrees, AlikeWord, one_mask, unmasked}
 use Rattle.pip_outside.specs.Unseen.{Answers, ByOneOf, GoesTo, IsUnseen, StaysThere}
 use Rattle.pip_model.proofs.Events.Soundness.{reached_words}
-use Rattle.pip_model.proofs.Trees.Ancestors.{not_root}
 use Rattle.pip_outside.proofs.Alikes.{tree_alike_same}
+use Rattle.pip_outside.proofs.Seen.{landed_word}
+use Rattle.pip_outside.proofs.Masks.{child_bare, create_refused, masked_alike, reach_bare}
 
 -- ---- calls on memory
 
-same_trees : (blind : ℕ → ℕ → Bool) (t u : Tree) → u ≡ t → AlikeTrees blind u t
-same_trees blind t u e =
-    subst (λ x. AlikeTrees blind x t) (sym e) (tree_alike_same blind t)
+same_trees : (look : ℕ → ℕ → ℕ → ℕ) (t u : Tree) → u ≡ t → AlikeTrees look u t
+same_trees look t u e =
+    subst (λ x. AlikeTrees look x t) (sym e) (tree_alike_same look t)
 
 unless_same : (t : Tree) (o : Option Status) (a : Answer) → a.tree ≡ t → (answer_unless t o a).tree ≡ t
 unless_same t None a e = e
@@ -112,48 +114,22 @@ module _ (w : World) (p : ℕ) (c : IsConfined w.tree p) where
 
 -- ---- yields
 
-mask_stays : (n : ℕ) (b : Bool) (xs : List Node) → ((x : Node) → In x xs → x.name ≡ n → ⊥)
-    → map (masked_node n b) xs ≡ xs
-mask_stays n b [] f = refl
-mask_stays n b (x ∷ xs) f =
-    ap₂ (λ y ys. y ∷ ys) (ap (λ m. record x { masked = cond m b x.masked }) (ne_eqb x.name n (f x (inl refl))))
-    (mask_stays n b xs (λ y i. f y (inr i)))
+-- a save of which nothing is seen, of a word that is in the block
+abbrev Unseen : (ℕ → ℕ → ℕ → ℕ) → Tree → Ctx → Reached → Type 0
+Unseen look t c (Place g i) = (j : ℕ) → i ≤ j → j < i + 17
+    → look g j (context_word c (j - i)) ≡ look g j (word_of (t.words g) j)
+Unseen look t c (Faulted f) = Unit {0}
 
--- to set the root's mask to what it is changes nothing
-mask_same : (t : Tree) → ((x : Node) → In x t.others → x.name ≢ t.root.name)
-    → with_masked t.root.name t.root.masked t ≡ t
-mask_same t s =
-    let r : masked_node t.root.name t.root.masked t.root ≡ t.root =
-    ap (λ b. record t.root { masked = b }) (either (t.root.name == t.root.name)) in
-    let o = mask_stays t.root.name t.root.masked t.others s in
-    λ i. record t { root = r i; others = o i }
+unseen_words : (look : ℕ → ℕ → ℕ → ℕ) (t : Tree) (c : Ctx) (g : ℕ) (q : Reached) → Unseen look t c q
+    → AlikeWord look g ((saved_to t c q).words g) (t.words g)
+unseen_words look t c g q l = at (t.words g) refl
   where
-    either : (b : Bool) → cond b t.root.masked t.root.masked ≡ t.root.masked
-    either true = refl
-    either false = refl
-
-not_both : {x : Bool} → x ≡ false → x ≡ true → ⊥
-not_both f t = cc
-
--- a save to words that are left out changes no other
-landed_word : (blind : ℕ → ℕ → Bool) (c : Ctx) (g : ℕ) (q : Reached) → Lands blind q → (j : ℕ) → blind g j ≡ false
-    → (x : ℕ → ℕ) → written_block c g q x j ≡ x j
-landed_word blind c g (Faulted f) l j v x = refl
-landed_word blind c g (Place n i) l j v x = test (n == g) (nat_le i j) (nat_lt j (i + 17)) refl refl refl
-  where
-    test : (a b z : Bool) → (n == g) ≡ a → nat_le i j ≡ b → nat_lt j (i + 17) ≡ z
-        → cond (a && (b && z)) (context_word c (j - i)) (x j) ≡ x j
-    test false b z ea eb ez = refl
-    test true false z ea eb ez = refl
-    test true true false ea eb ez = refl
-    test true true true ea eb ez =
-        absurd (not_both v (ap (λ w. blind w j) (sym (eqb-true n g ea))
-        ∙ l j (leb-true i j eb) (ltb-true j (i + 17) ez)))
-
-pub landed : (blind : ℕ → ℕ → Bool) (c : Ctx) (g : ℕ) (q : Reached) → Lands blind q → (o : Option (ℕ → ℕ))
-    → AlikeWord blind g (option_map (written_block c g q) o) o
-landed blind c g q l None = record { there = refl; words = λ j v. refl }
-landed blind c g q l (Some x) = record { there = refl; words = λ j v. landed_word blind c g q l j v x }
+    at : (o : Option (ℕ → ℕ)) → t.words g ≡ o → AlikeWord look g (option_map (written_block c g q) o) o
+    at None e = record { there = refl; words = λ j. refl }
+    at (Some x) e = record {
+      there = refl;
+      words = λ j. landed_word look c g q x j (λ i f a b. rw (subst (Unseen look t c) f l j a b, e));
+    }
 
 -- a yield that isn't refused finds a handler
 handled : (w : World) (p : ℕ) (a : Five) (q : Option Node) (c : Option Ctx) → handler w.tree (node_name q) a.x1 ≡ c
@@ -174,30 +150,42 @@ handled w p a q c e n z = absurd (go (not (a.x0 == 1) && not (is_place a.x0)) (i
     go false false false false f = cc
 
 -- a yield stays inside, or goes to another, or its save is seen
-abbrev Yielded : List ℕ → (ℕ → ℕ → Bool) → World → ℕ → Occupant → Five → Happened → Type 0
-Yielded own blind w cpu r a h = (StaysThere h.outcome × AlikeTrees blind h.world.tree w.tree)
-    ⊎ (GoesAway r.name h.outcome ⊎ SaveIsSeen blind (yield_place w.tree r.name a.x2))
+abbrev Yielded : List ℕ → (ℕ → ℕ → ℕ → ℕ) → World → ℕ → Occupant → Five → Happened → Type 0
+Yielded own look w cpu r a h = (StaysThere h.outcome × AlikeTrees look h.world.tree w.tree)
+    ⊎ (GoesAway r.name h.outcome ⊎ SaveIsSeen look w.tree (with_zeros r.ctx) (yield_place w.tree r.name a.x2))
 
-module _ (own : List ℕ) (blind : ℕ → ℕ → Bool) (w : World) (cpu : ℕ) (r : Occupant) (k : runs_on w cpu ≡ Some r)
+module _ (own : List ℕ) (look : ℕ → ℕ → ℕ → ℕ) (w : World) (cpu : ℕ) (r : Occupant) (k : runs_on w cpu ≡ Some r)
     (i : In r.name own) (c : IsConfined w.tree r.name) where
   -- it runs there
   runs : (P : Occupant → Type 0) → P r → ByOneOf own (runs_on w cpu) P
   runs P h = subst (λ o. ByOneOf own o P) (sym k) (i, h)
 
   -- a yield to itself
-  yields_itself : (n : ℕ) → Lands blind (yield_place w.tree r.name n)
-      → AlikeTrees blind (yielded_tree w.tree r n) w.tree
+  yields_itself : (n : ℕ) → Unseen look w.tree (with_zeros r.ctx) (yield_place w.tree r.name n)
+      → AlikeTrees look (yielded_tree w.tree r n) w.tree
   yields_itself n l = record {
-    nodes = ap {A = Tree} (λ t. record t { words = w.tree.words }) mask;
-    words = λ g. landed blind (with_zeros r.ctx) g (yield_place w.tree r.name n) l (w.tree.words g);
+    nodes = λ i. record {
+      frames = w.tree.frames;
+      root = record w.tree.root { masked = root (w.tree.root.name == w.tree.root.name) i };
+      others = stays w.tree.others i;
+      words = w.tree.words;
+    };
+    words = λ g. unseen_words look w.tree (with_zeros r.ctx) g (yield_place w.tree r.name n) l;
   }
     where
-      mask : with_masked w.tree.root.name (cond (r.name == w.tree.root.name) false w.tree.root.masked) w.tree ≡ w.tree
-      mask = ap (λ b. with_masked w.tree.root.name (cond b false w.tree.root.masked) w.tree)
-          (ne_eqb r.name w.tree.root.name c.other) ∙ mask_same w.tree c.alone
+      b : Bool
+      b = cond (r.name == w.tree.root.name) false w.tree.root.masked
 
-  call_does : (number : ℕ) (a : Five) → IsUnseen own blind w (E.Call cpu number a)
-      ⊎ IsExit blind w r.name (E.Call cpu number a)
+      root : (c : Bool) → cond c b w.tree.root.masked ≡ w.tree.root.masked
+      root true = ap (λ x. cond x false w.tree.root.masked) (ne_eqb r.name w.tree.root.name c.other)
+      root false = refl
+
+      stays : (xs : List Node) → map unmasked (map (masked_node w.tree.root.name b) xs) ≡ map unmasked xs
+      stays [] = refl
+      stays (x ∷ xs) = ap (λ l. unmasked x ∷ l) (stays xs)
+
+  call_does : (number : ℕ) (a : Five) → IsUnseen own look w (E.Call cpu number a)
+      ⊎ IsExit look w r.name (E.Call cpu number a)
   call_does number a =
       let f : what_happens w (E.Call cpu number a) ≡ call (call_named number) w cpu r a =
       ap (λ o. on_running w cpu o (λ r. call (call_named number) w cpu r a)) k in
@@ -205,40 +193,43 @@ module _ (own : List ℕ) (blind : ℕ → ℕ → Bool) (w : World) (cpu : ℕ)
         | inl m ↦ inl (
           runs (λ r. Unit {0}) tt,
           subst (λ h. StaysThere h.outcome) (sym f) m.0,
-          subst (λ h. AlikeTrees blind h.world.tree w.tree) (sym f) m.1,
+          subst (λ h. AlikeTrees look h.world.tree w.tree) (sym f) m.1,
         )
         | inr (inl m) ↦ inr (inl (subst (λ h. GoesAway r.name h.outcome) (sym f) m))
-        | inr (inr m) ↦ inr (inr m)
+        | inr (inr m) ↦ inr (inr (
+          m.0,
+          subst (λ o. SaveIsSeen look w.tree (with_zeros (ctx_of o))
+              (yield_place w.tree r.name a.x2)) (sym k) m.1,
+        ))
       ]
     where
-      -- all words of a block are left out, or one isn't
-      words_are : (g n i : ℕ) → ((j : ℕ) → i ≤ j → j < i + n → blind g j ≡ true)
-          ⊎ ((j : ℕ) × (i ≤ j) × (j < i + n) × (blind g j ≡ false))
-      words_are g zero i = inl (λ j l k. absurd (omega (arith, l, k)))
-      words_are g (suc n) i = by (blind g i) refl (words_are g n (i + 1))
-        where
-          by : (b : Bool) → blind g i ≡ b → ((j : ℕ) → i + 1 ≤ j → j < (i + 1) + n → blind g j ≡ true)
-              ⊎ ((j : ℕ) × (i + 1 ≤ j) × (j < (i + 1) + n) × (blind g j ≡ false))
-              → ((j : ℕ) → i ≤ j → j < i + suc n → blind g j ≡ true)
-              ⊎ ((j : ℕ) × (i ≤ j) × (j < i + suc n) × (blind g j ≡ false))
-          by false e x = inr (i, omega arith, omega arith, e)
-          by true e (inr x) = inr (x.0, omega (arith, x.1), omega (arith, x.2), x.3)
-          by true e (inl f) = inl (λ j l k. elim (cases_eq i j) [
-            | inl d ↦ ap (blind g) (sym d) ∙ e
-            | inr d ↦ f j (omega (arith, l, d)) (omega (arith, k))
+      -- all words of a block look as they did, or one doesn't
+      words_are : (f h : ℕ → ℕ) (n i : ℕ) → ((j : ℕ) → i ≤ j → j < i + n → f j ≡ h j)
+          ⊎ ((j : ℕ) × (i ≤ j) × (j < i + n) × (f j ≢ h j))
+      words_are f h zero i = inl (λ j l k. absurd (omega (arith, l, k)))
+      words_are f h (suc n) i = elim (cases_eq (f i) (h i)) [
+        | inr d ↦ inr (i, omega arith, omega arith, d)
+        | inl e ↦ elim (words_are f h n (i + 1)) [
+          | inr x ↦ inr (x.0, omega (arith, x.1), omega (arith, x.2), x.3)
+          | inl g ↦ inl (λ j l k. elim (cases_eq i j) [
+            | inl d ↦ rw (← d, e)
+            | inr d ↦ g j (omega (arith, l, d)) (omega (arith, k))
           ])
+        ]
+      ]
 
-      save_is : (q : Reached) → Lands blind q ⊎ SaveIsSeen blind q
+      save_is : (q : Reached) → Unseen look w.tree (with_zeros r.ctx) q ⊎ SaveIsSeen look w.tree (with_zeros r.ctx) q
       save_is (Faulted f) = inl tt
-      save_is (Place g i) = words_are g 17 i
+      save_is (Place g i) = words_are (λ j. look g j (context_word (with_zeros r.ctx) (j - i)))
+          (λ j. look g j (word_of (w.tree.words g) j)) 17 i
 
-      yields : (q : Option Node) → Yielded own blind w cpu r a (yield_to w cpu r a q)
+      yields : (q : Option Node) → Yielded own look w cpu r a (yield_to w cpu r a q)
       yields q = by (first_met (yield_refusals w r.name a q)) (handler w.tree (node_name q) a.x1)
           (handled w r.name a q (handler w.tree (node_name q) a.x1) refl)
         where
           by : (o : Option Status) (x : Option Ctx) → (o ≡ None → x ≢ None)
-              → Yielded own blind w cpu r a (reply_unless w cpu r o (yield_happens w cpu r a (node_name q) x))
-          by (Some z) x n = inl (tt, tree_alike_same blind w.tree)
+              → Yielded own look w cpu r a (reply_unless w cpu r o (yield_happens w cpu r a (node_name q) x))
+          by (Some z) x n = inl (tt, tree_alike_same look w.tree)
           by None None n = absurd (n refl refl)
           by None (Some x) n = elim (cases_eq (node_name q) r.name) [
             | inl e ↦ elim (save_is (yield_place w.tree r.name a.x2)) [
@@ -249,17 +240,17 @@ module _ (own : List ℕ) (blind : ℕ → ℕ → Bool) (w : World) (cpu : ℕ)
           ]
 
       go : (c : CallName) → call_named number ≡ c
-          → (StaysThere (call c w cpu r a).outcome × AlikeTrees blind (call c w cpu r a).world.tree w.tree)
-          ⊎ (GoesAway r.name (call c w cpu r a).outcome ⊎ (((b : Bool) × (call_named number ≡ Masks b))
-          ⊎ ((call_named number ≡ Yields) × SaveIsSeen blind (yield_place w.tree r.name a.x2))))
-      go (OnMemory m) e = inl (tt, same_trees blind w.tree (answer m w r.name a).tree (keeps w r.name c a m))
+          → (StaysThere (call c w cpu r a).outcome × AlikeTrees look (call c w cpu r a).world.tree w.tree)
+          ⊎ (GoesAway r.name (call c w cpu r a).outcome
+          ⊎ ((call_named number ≡ Yields) × SaveIsSeen look w.tree (with_zeros r.ctx) (yield_place w.tree r.name a.x2)))
+      go (OnMemory m) e = inl (tt, same_trees look w.tree (answer m w r.name a).tree (keeps w r.name c a m))
       go Yields e = elim (yields (target_node w.tree r.name a.x0)) [
         | inl m ↦ inl m
         | inr (inl m) ↦ inr (inl m)
-        | inr (inr m) ↦ inr (inr (inr (e, m)))
+        | inr (inr m) ↦ inr (inr (e, m))
       ]
-      go (Masks b) e = inr (inr (inl (b, e)))
-      go Unknown e = inl (tt, tree_alike_same blind w.tree)
+      go (Masks b) e = inl (tt, masked_alike look r.name b w.tree c.other)
+      go Unknown e = inl (tt, tree_alike_same look w.tree)
 
   at_reach : (va : ℕ) (x : Access) (z : Size) → Answers (reach w.tree r.name va x z)
       ⊎ Faults (reach w.tree r.name va x z)
@@ -269,29 +260,30 @@ module _ (own : List ℕ) (blind : ℕ → ℕ → Bool) (w : World) (cpu : ℕ)
       go (Place g j) = inl tt
       go (Faulted f) = inr tt
 
-  at_store : (va : ℕ) (z : Size) → GoesTo blind w.tree (reach w.tree r.name va Store z)
-      ⊎ IsSeen blind (reach w.tree r.name va Store z)
-  at_store va z = go (reach w.tree r.name va Store z) refl
+  at_store : (va : ℕ) (z : Size) (n : ℕ) → GoesTo look w.tree va z n (reach w.tree r.name va Store z)
+      ⊎ IsSeen look w.tree va z n (reach w.tree r.name va Store z)
+  at_store va z n = go (reach w.tree r.name va Store z) refl
     where
-      by : (g j : ℕ) (b : Bool) → blind g j ≡ b → is_some (w.tree.words g) ≡ true
-          → GoesTo blind w.tree (Place g j) ⊎ IsSeen blind (Place g j)
-      by g j true e m = inl (e, m)
-      by g j false e m = inr e
-
-      go : (q : Reached) → reach w.tree r.name va Store z ≡ q → GoesTo blind w.tree q ⊎ IsSeen blind q
-      go (Place g j) e = by g j (blind g j) refl (c.there va g j z e)
+      go : (q : Reached) → reach w.tree r.name va Store z ≡ q → GoesTo look w.tree va z n q
+          ⊎ IsSeen look w.tree va z n q
       go (Faulted f) e = inr tt
+      go (Place g j) e = elim (cases_eq (look g j (written_over va z n (word_of (w.tree.words g) j)))
+          (look g j (word_of (w.tree.words g) j))) [
+            | inl s ↦ inl (s, c.there va g j z e)
+            | inr d ↦ inr d
+          ]
 
-  does : (e : Event) → IsMadeOn cpu e → IsUnseen own blind w e ⊎ IsExit blind w r.name e
+  does : (e : Event) → IsMadeOn cpu e → IsUnseen own look w e ⊎ IsExit look w r.name e
   does (E.Load d va z) m = elim (at_reach va Load z) [
     | inl x ↦ inl (subst (λ n. ByOneOf own (runs_on w n) (λ r. Answers (reach w.tree r.name va Load z))) (sym m)
         (runs (λ r. Answers (reach w.tree r.name va Load z)) x))
     | inr x ↦ inr x
   ]
-  does (E.Store d va z x) m = elim (at_store va z) [
-    | inl y ↦ inl (subst (λ n. ByOneOf own (runs_on w n) (λ r. GoesTo blind w.tree (reach w.tree r.name va Store z)))
+  does (E.Store d va z x) m = elim (at_store va z x) [
+    | inl y ↦ inl (subst (λ n. ByOneOf own (runs_on w n) (λ r. GoesTo look w.tree va z x
+        (reach w.tree r.name va Store z)))
         (sym m)
-        (runs (λ r. GoesTo blind w.tree (reach w.tree r.name va Store z)) y))
+        (runs (λ r. GoesTo look w.tree va z x (reach w.tree r.name va Store z)) y))
     | inr y ↦ inr y
   ]
   does (E.Fetch d) m = elim (at_reach r.ctx.pc Fetch Word) [
@@ -302,7 +294,7 @@ module _ (own : List ℕ) (blind : ℕ → ℕ → Bool) (w : World) (cpu : ℕ)
   ]
   does (E.Trap d v a b) m = inr tt
   does (E.Call d number a) m =
-      subst (λ n. IsUnseen own blind w (E.Call n number a) ⊎ IsExit blind w r.name (E.Call n number a)) (sym m)
+      subst (λ n. IsUnseen own look w (E.Call n number a) ⊎ IsExit look w r.name (E.Call n number a)) (sym m)
       (call_does number a)
   does (E.Raise j) m = absurd m
   does (E.Poll d) m = absurd m
@@ -310,22 +302,40 @@ module _ (own : List ℕ) (blind : ℕ → ℕ → Bool) (w : World) (cpu : ℕ)
       (runs (λ r. Unit {0}) tt))
 
 pub confined_stays_or_exits : ConfinedStaysOrExits
-confined_stays_or_exits own blind w cpu e r k i c m = does own blind w cpu r k i c e m
+confined_stays_or_exits own look w cpu e r k i c m = does own look w cpu r k i c e m
+
+pub masks_are_unseen : MasksAreUnseen
+masks_are_unseen own look w cpu number a r b k i n e =
+    let f = ap (λ o. on_running w cpu o (λ r. call (call_named number) w cpu r a)) k ∙ ap (λ c. call c w cpu r a) e in (
+      subst (λ o. ByOneOf own o (λ r. Unit {0})) (sym k) (i, tt),
+      subst (λ h. StaysThere h.outcome) (sym f) tt,
+      subst (λ h. AlikeTrees look h.world.tree w.tree) (sym f) (masked_alike look r.name b w.tree n),
+    )
 
 pub confined_alike : ConfinedAlike
-confined_alike blind t u p a c = subst (λ x. IsConfined x p) a.nodes (record {
-  leaf = c.leaf;
-  creates = c.creates;
+confined_alike look t u p a c = of_bare u p (subst (λ x. IsConfined x p) a.nodes (record {
+  leaf = λ d. rw (child_bare t p d, c.leaf d);
+  creates = λ x. subst (λ o. o ≢ None) (sym (create_refused t p x)) (c.creates x);
   other = c.other;
-  alone = c.alone;
-  there = λ va g i z e. sym (a.words g).there ∙ c.there va g i z e;
-})
+  there = λ va g i z e. sym (a.words g).there ∙ c.there va g i z (sym (reach_bare t p va Store z) ∙ e);
+}))
+  where
+    none : (o : Option Node) → option_map unmasked o ≡ None → o ≡ None
+    none None e = refl
+    none (Some x) e = cc
+
+    of_bare : (u : Tree) (p : ℕ) → IsConfined (one_mask u) p → IsConfined u p
+    of_bare u p c = record {
+      leaf = λ d. none (child_at u p d) (sym (child_bare u p d) ∙ c.leaf d);
+      creates = λ x. subst (λ o. o ≢ None) (create_refused u p x) (c.creates x);
+      other = c.other;
+      there = λ va g i z e. c.there va g i z (reach_bare u p va Store z ∙ e);
+    }
 
 pub sound_confines : SoundConfines
 sound_confines t p s n other leaf creates = record {
   leaf = leaf;
   creates = creates;
   other = other;
-  alone = λ x i e. not_root t s x i (sym e);
   there = λ va g i z e. reached_words t p va g i Store z s n e;
 }

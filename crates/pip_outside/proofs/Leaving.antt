@@ -105,13 +105,13 @@ reply_status : (s t : Status) (u v : ℕ) → O.Reply s u ≡ O.Reply t v → s 
 reply_status s t u v e = cc
 
 pub refused_is_unseen : RefusedIsUnseen
-refused_is_unseen own blind w cpu number a r s v k i e n =
+refused_is_unseen own look w cpu number a r s v k i e n =
     let f = ap (λ o. on_running w cpu o (λ r. call (call_named number) w cpu r a)) k in (
       subst (λ o. ByOneOf own o (λ r. Unit {0})) (sym k) (i, tt),
       subst StaysThere (sym e) tt,
-      subst (λ t. AlikeTrees blind t w.tree)
+      subst (λ t. AlikeTrees look t w.tree)
           (sym (ap (λ h. h.world.tree) f ∙ by (call_named number) (sym (ap (λ h. h.outcome) f) ∙ e)))
-          (tree_alike_same blind w.tree),
+          (tree_alike_same look w.tree),
     )
   where
     yields : (o : Option Status) (h : Happened) → (h.outcome ≡ O.Reply s v → h.world.tree ≡ w.tree)

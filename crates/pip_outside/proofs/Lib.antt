@@ -1,5 +1,6 @@
 pub mod Seen
 pub mod Runners
+pub mod Masks
 pub mod Answered
 pub mod Moved
 pub mod Alikes
@@ -10,3 +11,4 @@ pub mod Confined
 pub mod Few
 pub mod Nothing
 pub mod Testing
+pub mod Entries

@@ -1,5 +1,5 @@
 -- One event in two worlds that look alike, and that reads no word by which they differ.
-use Rattle.std.proofs.Common.{◌≡◌, ℕ, ◌+◌, ◌*◌, ◌==◌, ◌&&◌, ◌||◌, not, Bool, true, false, cond, List}
+use Rattle.std.proofs.Common.{◌≡◌, ℕ, ◌+◌, ◌*◌, ◌==◌, ◌&&◌, ◌||◌, inl, not, Bool, true, false, cond, List}
 use Rattle.std.proofs.Common.{[], ◌∷◌, refl, sym, ap, ◌∙◌, subst, eqb-true, Option, Some, None}
 use Rattle.std.specs.Prelude.{filter, is_none, is_some, nat_le, nat_lt}
 use Rattle.pip_base.specs.Status.{status_number}
@@ -17,7 +17,7 @@ use Rattle.pip_model.specs.Cache.{Places}
 use Rattle.pip_model.specs.Deliver.{deliver, deliver_to, nearest_above, nearest_among, nearest_taker, taker_or}
 use Rattle.pip_model.specs.Events as E
 use Rattle.pip_model.specs.Events.{Event}
-use Rattle.pip_model.specs.Handlers.{can_save, handler, is_reached, save, save_place, saved_to}
+use Rattle.pip_model.specs.Handlers.{can_save, handler, save, save_place, saved_to}
 use Rattle.pip_model.specs.Happens.{access_number, what_happens, answer, call, call_named, fault_number, fault_vector}
 use Rattle.pip_model.specs.Happens.{load_happens, on_running, read_of, written_over, wrote}
 use Rattle.pip_model.specs.Lists.{In, has}
@@ -34,10 +34,10 @@ use Rattle.pip_model.specs.declared.call_name.CallName.TheVariants.{Masks, OnMem
 use Rattle.pip_model.specs.declared.processors.Occupant.{Occupant}
 use Rattle.pip_model.specs.declared.processors.Taker.{Taker}
 use Rattle.pip_outside.specs.Outside.{AboveMiss, AlikeCpus, AlikeOn, AlikeTrees, AlikeWord, ByRunner, DeliveryMisses}
-use Rattle.pip_outside.specs.Outside.{HandlerMisses, HandlersMiss, IsAlike, LoadMisses, MemoryMisses, SaveMisses}
+use Rattle.pip_outside.specs.Outside.{HandlerMisses, HandlersMiss, LoadMisses, MemoryMisses, SaveMisses}
 use Rattle.pip_outside.specs.Outside.{StoreMisses}
 use Rattle.pip_outside.specs.Outside.{CallMisses, Lands, LinesMiss, OutsideDependsOnOutside, PollMisses, ReadsOutside}
-use Rattle.pip_outside.specs.Outside.{YieldMisses}
+use Rattle.pip_outside.specs.Outside.{YieldMisses, one_mask}
 use Rattle.pip_model.specs.DeletePartition.{delete_partition}
 use Rattle.pip_model.specs.declared.call_name.MemoryCall.{MemoryCall}
 use Rattle.pip_model.specs.declared.call_name.MemoryCall.TheVariants.{AddVAddr, Collect, CountToMap, CreatePartition}
@@ -45,13 +45,15 @@ use Rattle.pip_model.specs.declared.call_name.MemoryCall.TheVariants.{DeletePart
 use Rattle.pip_model.specs.declared.call_name.MemoryCall.TheVariants.{RemoveVAddr}
 use Rattle.pip_outside.proofs.Answered.{AlikeAnswers, add_alike, collect_alike, count_alike, create_alike, delete_alike}
 use Rattle.pip_outside.proofs.Answered.{mapped_alike, prepare_alike, remove_alike}
+use Rattle.pip_outside.proofs.Alikes.{trees_on}
+use Rattle.pip_outside.proofs.Masks.{bare_alike, masks_tell_nothing}
 use Rattle.pip_outside.proofs.Runners.{at_alike, count_same, names_same, set_alike}
-use Rattle.pip_outside.proofs.Seen.{AlikeHandlers, handler_same, place_same, saved_alike}
+use Rattle.pip_outside.proofs.Seen.{AlikeHandlers, AlikePlaces, handler_same, place_same, reached_same, saved_alike}
 
 -- two outcomes are one, and the worlds look alike
-pub record Both (own : List ℕ) (blind : ℕ → ℕ → Bool) (a b : Happened) : Type 0 where
+pub record Both (own : List ℕ) (look : ℕ → ℕ → ℕ → ℕ) (a b : Happened) : Type 0 where
   pub outcome : a.outcome ≡ b.outcome
-  pub tree : AlikeTrees blind a.world.tree b.world.tree
+  pub tree : AlikeTrees look a.world.tree b.world.tree
   pub cpus : AlikeCpus own a.world.cpus b.world.cpus
 
 -- two that take one vector
@@ -76,9 +78,9 @@ none_refused w p a = go (not (a.x0 == 1) && not (is_place a.x0))
     go true = refl
     go false = refl
 
-module _ (own : List ℕ) (blind : ℕ → ℕ → Bool) (w : World) (u : ℕ → Option (ℕ
+module _ (own : List ℕ) (look : ℕ → ℕ → ℕ → ℕ) (w : World) (u : ℕ → Option (ℕ
     → ℕ)) (ds : List (Option Occupant)) (ks : List Places)
-    (h : (g : ℕ) → AlikeWord blind g (w.tree.words g) (u g)) (c : AlikeCpus own w.cpus ds) where
+    (h : (g : ℕ) → AlikeWord look g (w.tree.words g) (u g)) (c : AlikeCpus own w.cpus ds) where
   -- the other world
   abbrev v : World
   v = record { tree = record w.tree { words = u }; cpus = ds; caches = ks }
@@ -86,7 +88,7 @@ module _ (own : List ℕ) (blind : ℕ → ℕ → Bool) (w : World) (u : ℕ �
   running_same : running w ≡ running v
   running_same = names_same own w.cpus ds c
 
-  still : (o : Outcome) → Both own blind (record { outcome = o; world = w }) (record { outcome = o; world = v })
+  still : (o : Outcome) → Both own look (record { outcome = o; world = w }) (record { outcome = o; world = v })
   still o = record { outcome = refl; tree = record { nodes = refl; words = h }; cpus = c }
 
   -- ---- who takes a vector
@@ -100,7 +102,7 @@ module _ (own : List ℕ) (blind : ℕ → ℕ → Bool) (w : World) (u : ℕ �
   take_or false q born (Some x) None xs ys k r = absurd (k refl)
   take_or false q born (Some x) (Some y) xs ys k r = (refl, refl, k refl)
 
-  among_alike : (k born : ℕ) (qs : List Node) → HandlersMiss own blind w k qs
+  among_alike : (k born : ℕ) (qs : List Node) → HandlersMiss own look w k qs
       → AlikeTakers own (nearest_among w k born qs) (nearest_among v k born qs)
   among_alike k born [] m = tt
   among_alike k born (q ∷ qs) m =
@@ -108,9 +110,9 @@ module _ (own : List ℕ) (blind : ℕ → ℕ → Bool) (w : World) (u : ℕ �
       (taker_or (has rs q.name) (handler v.tree q.name k) q born (nearest_among v k q.born qs))) running_same
       (take_or (has (running w) q.name) q born (handler w.tree q.name k) (handler v.tree q.name k)
       (nearest_among w k q.born qs) (nearest_among v k q.born qs)
-      (λ b. handler_same own blind w.tree u h q.name k (m.0 b)) (among_alike k q.born qs m.1))
+      (λ b. handler_same own look w.tree u h q.name k (m.0 b)) (among_alike k q.born qs m.1))
 
-  above_alike : (k : ℕ) (ps : List Node) → AboveMiss own blind w k ps
+  above_alike : (k : ℕ) (ps : List Node) → AboveMiss own look w k ps
       → AlikeTakers own (nearest_above w k ps) (nearest_above v k ps)
   above_alike k [] m = tt
   above_alike k (p ∷ qs) m = among_alike k p.born qs m
@@ -121,19 +123,18 @@ module _ (own : List ℕ) (blind : ℕ → ℕ → Bool) (w : World) (u : ℕ �
     abbrev s : Occupant
     s = record r { ctx = d }
 
-    saved : (k : ℕ) → SaveMisses own blind w.tree r.name k
-        → AlikeTrees blind (save w.tree r.name k r.ctx) (save v.tree s.name k s.ctx)
-    saved k m = subst (λ q. AlikeTrees blind (save w.tree r.name k r.ctx) (saved_to v.tree d q))
-        (place_same own blind w.tree u h r.name k m.entry)
-        (saved_alike own blind w.tree u h r.ctx d r.name (save_place w.tree r.name k) e m.lands)
+    saved : (k : ℕ) → SaveMisses own look w.tree r.name k
+        → AlikeTrees look (save w.tree r.name k r.ctx) (save v.tree s.name k s.ctx)
+    saved k m = saved_alike own look w.tree u h r.ctx d r.name (save_place w.tree r.name k)
+        (save_place v.tree r.name k) e m.lands (place_same own look w.tree u h r.name k m.entry)
 
-    delivered : (k a b : ℕ) → DeliveryMisses own blind w r.name k
-        → Both own blind (deliver w cpu r k a b) (deliver v cpu s k a b)
+    delivered : (k a b : ℕ) → DeliveryMisses own look w r.name k
+        → Both own look (deliver w cpu r k a b) (deliver v cpu s k a b)
     delivered k a b m =
         go (nearest_taker w r.name k) (nearest_taker v r.name k) (above_alike k (chain w.tree r.name) m.handlers)
       where
         go : (x y : Option Taker) → AlikeTakers own x y
-            → Both own blind (deliver_to w cpu r k a b x) (deliver_to v cpu s k a b y)
+            → Both own look (deliver_to w cpu r k a b x) (deliver_to v cpu s k a b y)
         go None None l =
             record { outcome = refl; tree = saved 63 m.save; cpus = set_alike own w.cpus ds cpu None None c tt }
         go None (Some y) l = absurd l
@@ -145,27 +146,27 @@ module _ (own : List ℕ) (blind : ℕ → ℕ → Bool) (w : World) (u : ℕ �
               (l.0, (λ n. let f = l.2 n in let g = l.1 in λ i. handler_context (f i) k a b (g i)));
         }
 
-    loaded : (va : ℕ) (a : Access) (z : Size) (q : Reached) → LoadMisses own blind w r.name q
-        → Both own blind (load_happens w cpu r va a z q) (load_happens v cpu s va a z q)
+    loaded : (va : ℕ) (a : Access) (z : Size) (q : Reached) → LoadMisses own look w r.name q
+        → Both own look (load_happens w cpu r va a z q) (load_happens v cpu s va a z q)
     loaded va a z (Place g i) m = record {
-      outcome = ap (λ x. O.Word (read_of va z x)) ((h g).words i m);
+      outcome = ap (λ x. O.Word (read_of va z x)) (m _ _ ((h g).words i));
       tree = record { nodes = refl; words = h };
       cpus = c;
     }
     loaded va a z (Faulted f) m = delivered (fault_vector f) va (16 * access_number a + fault_number f) m
 
-    written : (va : ℕ) (z : Size) (x : ℕ) (q : Reached) → StoreMisses own blind w r.name q
-        → Both own blind (wrote w cpu r va z x q) (wrote v cpu s va z x q)
+    written : (va : ℕ) (z : Size) (x : ℕ) (q : Reached) → StoreMisses own look w r.name va z q
+        → Both own look (wrote w cpu r va z x q) (wrote v cpu s va z x q)
     written va z x (Place g i) m =
         record { outcome = refl; tree = record { nodes = refl; words = λ k. at k (k == g) refl }; cpus = c }
       where
-        word : (j : ℕ) → blind g j ≡ false → (b : Bool) → (j == i) ≡ b
-            → cond b (written_over va z x (word_of (w.tree.words g) i)) (word_of (w.tree.words g) j)
-            ≡ cond b (written_over va z x (word_of (u g) i)) (word_of (u g) j)
-        word j n false e = (h g).words j n
-        word j n true e = ap (written_over va z x) ((h g).words i (ap (blind g) (sym (eqb-true j i e)) ∙ n))
+        word : (j : ℕ) (b : Bool) → (j == i) ≡ b
+            → look g j (cond b (written_over va z x (word_of (w.tree.words g) i)) (word_of (w.tree.words g) j))
+            ≡ look g j (cond b (written_over va z x (word_of (u g) i)) (word_of (u g) j))
+        word j false e = (h g).words j
+        word j true e = rw (eqb-true j i e) (m x _ _ ((h g).words i))
 
-        at : (k : ℕ) (b : Bool) → (k == g) ≡ b → AlikeWord blind k
+        at : (k : ℕ) (b : Bool) → (k == g) ≡ b → AlikeWord look k
             (cond b (Some (λ j. cond (j == i) (written_over va z x (word_of (w.tree.words g) i))
             (word_of (w.tree.words g) j))) (w.tree.words k))
             (cond b (Some (λ j. cond (j == i) (written_over va z x (word_of (u g) i)) (word_of (u g) j))) (u k))
@@ -173,14 +174,13 @@ module _ (own : List ℕ) (blind : ℕ → ℕ → Bool) (w : World) (u : ℕ �
         at k true e =
             record {
               there = refl;
-              words = λ j n. word j (ap (λ y. blind y j) (sym (eqb-true k g e)) ∙ n) (j == i)
-                  refl;
+              words = λ j. rw (eqb-true k g e) (word j (j == i) refl);
             }
     written va z x (Faulted f) m = delivered (fault_vector f) va (16 * access_number Store + fault_number f) m
 
     -- ---- calls
 
-    replied : (a b : Answer) → AlikeAnswers blind a b → Both own blind (reply_happens w cpu r a)
+    replied : (a b : Answer) → AlikeAnswers look a b → Both own look (reply_happens w cpu r a)
         (reply_happens v cpu s b)
     replied a b k =
         let st = k.status in
@@ -195,59 +195,58 @@ module _ (own : List ℕ) (blind : ℕ → ℕ → Bool) (w : World) (u : ℕ �
           );
         }
 
-    refused : (z : Status) → Both own blind (reply_happens w cpu r (refuse w.tree z)) (reply_happens v cpu s
+    refused : (z : Status) → Both own look (reply_happens w cpu r (refuse w.tree z)) (reply_happens v cpu s
         (refuse v.tree z))
     refused z = replied _ _ (record { status = refl; value = refl; tree = record { nodes = refl; words = h } })
 
-    answered : (a : Five) (k : MemoryCall) → MemoryMisses blind w.tree r.name a k
-        → AlikeAnswers blind (answer k w r.name a) (answer k v r.name a)
-    answered a CreatePartition m = create_alike blind w.tree u h r.name a
+    answered : (a : Five) (k : MemoryCall) → MemoryMisses look w.tree r.name a k
+        → AlikeAnswers look (answer k w r.name a) (answer k v r.name a)
+    answered a CreatePartition m = create_alike look w.tree u h r.name a
     answered a DeletePartition m =
-        subst (λ rs. AlikeAnswers blind (delete_partition w.tree (running w) r.name a.x0)
-        (delete_partition v.tree rs r.name a.x0)) running_same (delete_alike blind w.tree u h (running w) r.name a.x0)
-    answered a CountToMap m = count_alike blind w.tree u h r.name a
-    answered a Prepare m = prepare_alike blind w.tree u h r.name a m
-    answered a Collect m = collect_alike blind w.tree u h r.name a
-    answered a AddVAddr m = add_alike blind w.tree u h r.name a
-    answered a RemoveVAddr m = remove_alike blind w.tree u h r.name a
-    answered a MappedInChild m = mapped_alike blind w.tree u h r.name a
+        subst (λ rs. AlikeAnswers look (delete_partition w.tree (running w) r.name a.x0)
+        (delete_partition v.tree rs r.name a.x0)) running_same (delete_alike look w.tree u h (running w) r.name a.x0)
+    answered a CountToMap m = count_alike look w.tree u h r.name a
+    answered a Prepare m = prepare_alike look w.tree u h r.name a m
+    answered a Collect m = collect_alike look w.tree u h r.name a
+    answered a AddVAddr m = add_alike look w.tree u h r.name a
+    answered a RemoveVAddr m = remove_alike look w.tree u h r.name a
+    answered a MappedInChild m = mapped_alike look w.tree u h r.name a
 
-    unless : (o : Option Status) (x y : Happened) → Both own blind x y
-        → Both own blind (reply_unless w cpu r o x) (reply_unless v cpu s o y)
+    unless : (o : Option Status) (x y : Happened) → Both own look x y
+        → Both own look (reply_unless w cpu r o x) (reply_unless v cpu s o y)
     unless None x y k = k
     unless (Some z) x y k = refused z
 
-    yield_place_same : (k : ℕ) → (nat_lt k 256 ≡ true → SaveMisses own blind w.tree r.name k)
-        → yield_place w.tree r.name k ≡ yield_place v.tree r.name k
+    yield_place_same : (k : ℕ) → (nat_lt k 256 ≡ true → SaveMisses own look w.tree r.name k)
+        → AlikePlaces own look r.name (yield_place w.tree r.name k) (yield_place v.tree r.name k)
     yield_place_same k m = go (nat_lt k 256) refl
       where
-        go : (b : Bool) → nat_lt k 256 ≡ b → cond b (save_place w.tree r.name k) (Faulted Unmapped)
-            ≡ cond b (save_place v.tree r.name k) (Faulted Unmapped)
-        go true q = place_same own blind w.tree u h r.name k (m q).entry
-        go false q = refl
+        go : (b : Bool) → nat_lt k 256 ≡ b
+            → AlikePlaces own look r.name (cond b (save_place w.tree r.name k) (Faulted Unmapped))
+            (cond b (save_place v.tree r.name k) (Faulted Unmapped))
+        go true q = place_same own look w.tree u h r.name k (m q).entry
+        go false q = inl refl
 
-    yield_lands : (k : ℕ) → (nat_lt k 256 ≡ true → SaveMisses own blind w.tree r.name k) → In r.name own
-        → Lands blind (yield_place w.tree r.name k)
+    yield_lands : (k : ℕ) → (nat_lt k 256 ≡ true → SaveMisses own look w.tree r.name k) → In r.name own
+        → Lands look (yield_place w.tree r.name k)
     yield_lands k m i = go (nat_lt k 256) refl
       where
-        go : (b : Bool) → nat_lt k 256 ≡ b → Lands blind (cond b (save_place w.tree r.name k) (Faulted Unmapped))
+        go : (b : Bool) → nat_lt k 256 ≡ b → Lands look (cond b (save_place w.tree r.name k) (Faulted Unmapped))
         go true q = (m q).lands i
         go false q = tt
 
-    yielded : (k : ℕ) → (nat_lt k 256 ≡ true → SaveMisses own blind w.tree r.name k)
-        → AlikeTrees blind (yielded_tree w.tree r k) (yielded_tree v.tree s k)
+    yielded : (k : ℕ) → (nat_lt k 256 ≡ true → SaveMisses own look w.tree r.name k)
+        → AlikeTrees look (yielded_tree w.tree r k) (yielded_tree v.tree s k)
     yielded k m = record { nodes = refl; words = x.words }
       where
-        x : AlikeTrees blind (saved_to w.tree (with_zeros r.ctx) (yield_place w.tree r.name k))
+        x : AlikeTrees look (saved_to w.tree (with_zeros r.ctx) (yield_place w.tree r.name k))
             (saved_to v.tree (with_zeros d) (yield_place v.tree r.name k))
-        x = subst (λ q. AlikeTrees blind (saved_to w.tree (with_zeros r.ctx) (yield_place w.tree r.name k))
-            (saved_to v.tree (with_zeros d) q)) (yield_place_same k m)
-            (saved_alike own blind w.tree u h (with_zeros r.ctx) (with_zeros d) r.name (yield_place w.tree r.name k)
-            (λ n. ap with_zeros (e n)) (yield_lands k m))
+        x = saved_alike own look w.tree u h (with_zeros r.ctx) (with_zeros d) r.name (yield_place w.tree r.name k)
+            (yield_place v.tree r.name k) (λ n. ap with_zeros (e n)) (yield_lands k m) (yield_place_same k m)
 
     entered : (a : Five) (q : ℕ) (x y : Option Ctx) → AlikeHandlers own q x y
-        → (nat_lt a.x2 256 ≡ true → SaveMisses own blind w.tree r.name a.x2)
-        → Both own blind (yield_happens w cpu r a q x) (yield_happens v cpu s a q y)
+        → (nat_lt a.x2 256 ≡ true → SaveMisses own look w.tree r.name a.x2)
+        → Both own look (yield_happens w cpu r a q x) (yield_happens v cpu s a q y)
     entered a q None None l m = still O.Idle
     entered a q None (Some y) l m = absurd l
     entered a q (Some x) None l m = absurd l
@@ -260,31 +259,31 @@ module _ (own : List ℕ) (blind : ℕ → ℕ → Bool) (w : World) (u : ℕ �
     none_same q (Some x) None l = absurd l
     none_same q (Some x) (Some y) l = refl
 
-    can_same : (k : ℕ) → (nat_lt k 256 ≡ true → SaveMisses own blind w.tree r.name k)
+    can_same : (k : ℕ) → (nat_lt k 256 ≡ true → SaveMisses own look w.tree r.name k)
         → (nat_lt k 256 && not (can_save w.tree r.name k)) ≡ (nat_lt k 256 && not (can_save v.tree r.name k))
     can_same k m = go (nat_lt k 256) refl
       where
         go : (b : Bool) → nat_lt k 256 ≡ b
             → (b && not (can_save w.tree r.name k)) ≡ (b && not (can_save v.tree r.name k))
-        go true q = ap (λ x. not (is_reached x)) (place_same own blind w.tree u h r.name k (m q).entry)
+        go true q = ap not (reached_same own look r.name _ _ (place_same own look w.tree u h r.name k (m q).entry))
         go false q = refl
 
-    yield_alike : (a : Five) → YieldMisses own blind w r.name a → Both own blind (yield w cpu r a) (yield v cpu s a)
+    yield_alike : (a : Five) → YieldMisses own look w r.name a → Both own look (yield w cpu r a) (yield v cpu s a)
     yield_alike a m = go (target_node w.tree r.name a.x0) m.target
       where
         go : (q : Option Node)
-            → ((x : Node) → q ≡ Some x → HandlerMisses own blind w.tree x.name a.x1)
-            → Both own blind (yield_to w cpu r a q) (yield_to v cpu s a q)
+            → ((x : Node) → q ≡ Some x → HandlerMisses own look w.tree x.name a.x1)
+            → Both own look (yield_to w cpu r a q) (yield_to v cpu s a q)
         go None t =
             let z = no_target a in
-            subst (λ o. Both own blind (reply_unless w cpu r o (yield_happens w cpu r a 0 (handler w.tree 0 a.x1)))
+            subst (λ o. Both own look (reply_unless w cpu r o (yield_happens w cpu r a 0 (handler w.tree 0 a.x1)))
             (yield_to v cpu s a None)) (sym (none_refused w r.name a))
-            (subst (λ o. Both own blind (refused_as w cpu r z)
+            (subst (λ o. Both own look (refused_as w cpu r z)
             (reply_unless v cpu s o (yield_happens v cpu s a 0 (handler v.tree 0 a.x1))))
             (sym (none_refused v r.name a)) (refused z))
         go (Some x) t =
-            let l = handler_same own blind w.tree u h x.name a.x1 (t x refl) in
-            subst (λ o. Both own blind (yield_to w cpu r a (Some x)) (reply_unless v cpu s o
+            let l = handler_same own look w.tree u h x.name a.x1 (t x refl) in
+            subst (λ o. Both own look (yield_to w cpu r a (Some x)) (reply_unless v cpu s o
             (yield_happens v cpu s a x.name (handler v.tree x.name a.x1)))) (refusals_same x l)
             (unless (first_met (yield_refusals w r.name a (Some x))) _ _
             (entered a x.name (handler w.tree x.name a.x1) (handler v.tree x.name a.x1) l m.save))
@@ -305,8 +304,8 @@ module _ (own : List ℕ) (blind : ℕ → ℕ → Bool) (w : World) (u : ℕ �
                 ∷ (b i, S.BadSave)
                 ∷ [])
 
-    called : (a : Five) (k : CallName) → CallMisses own blind w r.name a k
-        → Both own blind (call k w cpu r a) (call k v cpu s a)
+    called : (a : Five) (k : CallName) → CallMisses own look w r.name a k
+        → Both own look (call k w cpu r a) (call k v cpu s a)
     called a (OnMemory k) m = replied _ _ (answered a k m)
     called a Yields m = yield_alike a m
     called a (Masks b) m =
@@ -315,11 +314,11 @@ module _ (own : List ℕ) (blind : ℕ → ℕ → Bool) (w : World) (u : ℕ �
 
   -- ---- lines
 
-  line_same : (js : List ℕ) → LinesMiss own blind w.tree js → lowest_line w js ≡ lowest_line v js
+  line_same : (js : List ℕ) → LinesMiss own look w.tree js → lowest_line w js ≡ lowest_line v js
   line_same [] m = refl
   line_same (j ∷ js) m =
       let l = some_same (handler w.tree w.tree.root.name (32 + j)) (handler v.tree w.tree.root.name (32 + j))
-      (handler_same own blind w.tree u h w.tree.root.name (32 + j) m.0) in
+      (handler_same own look w.tree u h w.tree.root.name (32 + j) m.0) in
       let rest = line_same js m.1 in
       λ i. cond (l i) (Some j) (rest i)
     where
@@ -329,16 +328,16 @@ module _ (own : List ℕ) (blind : ℕ → ℕ → Bool) (w : World) (u : ℕ �
       some_same (Some x) None l = absurd l
       some_same (Some x) (Some y) l = refl
 
-  line_misses : (js : List ℕ) (j : ℕ) → LinesMiss own blind w.tree js → lowest_line w js ≡ Some j
-      → HandlerMisses own blind w.tree w.tree.root.name (32 + j)
+  line_misses : (js : List ℕ) (j : ℕ) → LinesMiss own look w.tree js → lowest_line w js ≡ Some j
+      → HandlerMisses own look w.tree w.tree.root.name (32 + j)
   line_misses [] j m e = cc
   line_misses (k ∷ js) j m e =
       go (is_some (handler w.tree w.tree.root.name (32 + k))) e (λ q. line_misses js j m.1 q)
     where
       go : (b : Bool) → cond b (Some k) (lowest_line w js) ≡ Some j
-          → (lowest_line w js ≡ Some j → HandlerMisses own blind w.tree w.tree.root.name (32 + j))
-          → HandlerMisses own blind w.tree w.tree.root.name (32 + j)
-      go true q f = let d : k ≡ j = cc in subst (λ n. HandlerMisses own blind w.tree w.tree.root.name (32 + n)) d m.0
+          → (lowest_line w js ≡ Some j → HandlerMisses own look w.tree w.tree.root.name (32 + j))
+          → HandlerMisses own look w.tree w.tree.root.name (32 + j)
+      go true q f = let d : k ≡ j = cc in subst (λ n. HandlerMisses own look w.tree w.tree.root.name (32 + n)) d m.0
       go false q f = f q
 
   elsewhere_same : (cpu : ℕ) → runs_elsewhere w cpu w.tree.root.name ≡ runs_elsewhere v cpu w.tree.root.name
@@ -352,49 +351,58 @@ module _ (own : List ℕ) (blind : ℕ → ℕ → Bool) (w : World) (u : ℕ �
       let b = count_same own w.cpus ds c in
       λ i. not (a i) && ((not w.tree.root.masked || not (n i == w.tree.root.name)) && nat_lt cpu (b i))
 
-  untaken : (cpu : ℕ) (o p : Option Occupant) → AlikeOn own o p → Both own blind (none_taken w o) (none_taken v p)
+  untaken : (cpu : ℕ) (o p : Option Occupant) → AlikeOn own o p → Both own look (none_taken w o) (none_taken v p)
   untaken cpu None None a = still O.Idle
   untaken cpu None (Some q) a = absurd a
   untaken cpu (Some r) None a = absurd a
   untaken cpu (Some r) (Some q) a = still O.Done
 
   module _ (cpu : ℕ) (o p : Option Occupant) (a : AlikeOn own o p) (n : occupant_name o ≡ occupant_name p)
-      (k : AlikeTrees blind (save_running w.tree o) (save_running v.tree p)) where
+      (k : AlikeTrees look (save_running w.tree o) (save_running v.tree p)) where
     taken : (j : ℕ) (x y : Option Ctx) → AlikeHandlers own w.tree.root.name x y
-        → Both own blind (take_line w cpu o j x) (take_line v cpu p j y)
+        → Both own look (take_line w cpu o j x) (take_line v cpu p j y)
     taken j None None l = untaken cpu o p a
     taken j None (Some y) l = absurd l
     taken j (Some x) None l = absurd l
     taken j (Some x) (Some y) l = record {
       outcome = ap (λ q. O.Switched q w.tree.root.name (32 + j)) n;
       tree = record {
-        nodes = ap (λ t. with_pending (filter (λ i. not (i == j)) w.tree.root.pending) (with_masked w.tree.root.name
-            true t)) k.nodes;
+        nodes = lined o p;
         words = k.words;
       };
       cpus = set_alike own w.cpus ds cpu _ _ c
           (refl, (λ n. ap (λ q. handler_context q (32 + j) 0 0 0) (l n)));
     }
+      where
+        lined : (o p : Option Occupant) →
+            record (one_mask (with_pending (filter (λ i. not (i == j)) w.tree.root.pending)
+            (with_masked w.tree.root.name true (save_running w.tree o)))) { words = (save_running v.tree p).words }
+            ≡ one_mask (with_pending (filter (λ i. not (i == j)) w.tree.root.pending) (with_masked w.tree.root.name true
+            (save_running v.tree p)))
+        lined None None = refl
+        lined None (Some q) = refl
+        lined (Some r) None = refl
+        lined (Some r) (Some q) = refl
 
-    polled : LinesMiss own blind w.tree w.tree.root.pending → Both own blind (poll w cpu o) (poll v cpu p)
-    polled m = subst (λ b. Both own blind (poll w cpu o) (cond b (poll_line v cpu p (lowest_line v w.tree.root.pending))
+    polled : LinesMiss own look w.tree w.tree.root.pending → Both own look (poll w cpu o) (poll v cpu p)
+    polled m = subst (λ b. Both own look (poll w cpu o) (cond b (poll_line v cpu p (lowest_line v w.tree.root.pending))
         (none_taken v p))) (may_same cpu o p n)
         (go (may_take w cpu o))
       where
-        line : Both own blind (poll_line w cpu o (lowest_line w w.tree.root.pending))
+        line : Both own look (poll_line w cpu o (lowest_line w w.tree.root.pending))
             (poll_line v cpu p (lowest_line v w.tree.root.pending))
-        line = subst (λ x. Both own blind (poll_line w cpu o (lowest_line w w.tree.root.pending)) (poll_line v cpu p x))
+        line = subst (λ x. Both own look (poll_line w cpu o (lowest_line w w.tree.root.pending)) (poll_line v cpu p x))
             (line_same w.tree.root.pending m) (at (lowest_line w w.tree.root.pending) refl)
           where
             at : (x : Option ℕ) → lowest_line w w.tree.root.pending ≡ x
-                → Both own blind (poll_line w cpu o x) (poll_line v cpu p x)
+                → Both own look (poll_line w cpu o x) (poll_line v cpu p x)
             at None e = untaken cpu o p a
             at (Some j) e = taken j (handler w.tree w.tree.root.name (32 + j))
                 (handler v.tree w.tree.root.name (32 + j))
-                (handler_same own blind w.tree u h w.tree.root.name (32 + j)
+                (handler_same own look w.tree u h w.tree.root.name (32 + j)
                 (line_misses w.tree.root.pending j m e))
 
-        go : (b : Bool) → Both own blind
+        go : (b : Bool) → Both own look
             (cond b (poll_line w cpu o (lowest_line w w.tree.root.pending)) (none_taken w o))
             (cond b (poll_line v cpu p (lowest_line v w.tree.root.pending)) (none_taken v p))
         go true = line
@@ -409,21 +417,21 @@ module _ (own : List ℕ) (blind : ℕ → ℕ → Bool) (w : World) (u : ℕ �
   by_runner : (cpu : ℕ) (o p : Option Occupant) (P : Occupant → Type 0) (f g : Occupant → Happened)
       → AlikeOn own o p → ByRunner o P
       → ((r : Occupant) (d : Ctx) → ((In r.name own → ⊥) → r.ctx ≡ d) → P r
-      → Both own blind (f r) (g (record r { ctx = d })))
-      → Both own blind (on_running w cpu o f) (on_running v cpu p g)
+      → Both own look (f r) (g (record r { ctx = d })))
+      → Both own look (on_running w cpu o f) (on_running v cpu p g)
   by_runner cpu None None P f g a b k = still O.Idle
   by_runner cpu None (Some q) P f g a b k = absurd a
   by_runner cpu (Some r) None P f g a b k = absurd a
   by_runner cpu (Some r) (Some q) P f g a b k =
-      subst (λ z. Both own blind (f r) (g z)) (as_there r q a.0) (k r q.ctx a.1 b)
+      subst (λ z. Both own look (f r) (g z)) (as_there r q a.0) (k r q.ctx a.1 b)
 
-  poll_both : (cpu : ℕ) (o p : Option Occupant) → AlikeOn own o p → PollMisses own blind w o
-      → Both own blind (poll w cpu o) (poll v cpu p)
+  poll_both : (cpu : ℕ) (o p : Option Occupant) → AlikeOn own o p → PollMisses own look w o
+      → Both own look (poll w cpu o) (poll v cpu p)
   poll_both cpu None None a m = polled cpu None None a refl (record { nodes = refl; words = h }) m.lines
   poll_both cpu None (Some q) a m = absurd a
   poll_both cpu (Some r) None a m = absurd a
   poll_both cpu (Some r) (Some q) a m =
-      subst (λ z. Both own blind (poll w cpu (Some r)) (poll v cpu (Some z))) (as_there r q a.0)
+      subst (λ z. Both own look (poll w cpu (Some r)) (poll v cpu (Some z))) (as_there r q a.0)
       (polled cpu (Some r) (Some (record r { ctx = q.ctx })) (refl, a.1) refl (saved cpu r q.ctx a.1 63 m.save) m.lines)
 
   -- ---- an event
@@ -431,7 +439,7 @@ module _ (own : List ℕ) (blind : ℕ → ℕ → Bool) (w : World) (u : ℕ �
   at : (cpu : ℕ) → AlikeOn own (runs_on w cpu) (runs_on v cpu)
   at cpu = at_alike own w.cpus ds cpu c
 
-  pub moved : (e : Event) → ReadsOutside own blind w e → Both own blind (what_happens w e) (what_happens v e)
+  pub moved : (e : Event) → ReadsOutside own look w e → Both own look (what_happens w e) (what_happens v e)
   moved (E.Load cpu va z) m = by_runner cpu (runs_on w cpu) (runs_on v cpu) _
       (λ r. load_happens w cpu r va Load z (reach w.tree r.name va Load z))
       (λ r. load_happens v cpu r va Load z (reach w.tree r.name va Load z)) (at cpu) m
@@ -444,7 +452,7 @@ module _ (own : List ℕ) (blind : ℕ → ℕ → Bool) (w : World) (u : ℕ �
       (λ r. load_happens w cpu r r.ctx.pc Fetch Word (reach w.tree r.name r.ctx.pc Fetch Word))
       (λ r. load_happens v cpu r r.ctx.pc Fetch Word (reach w.tree r.name r.ctx.pc Fetch Word)) (at cpu) m
       (λ r d e k.
-      subst (λ x. Both own blind (load_happens w cpu r r.ctx.pc Fetch Word (reach w.tree r.name r.ctx.pc Fetch Word))
+      subst (λ x. Both own look (load_happens w cpu r r.ctx.pc Fetch Word (reach w.tree r.name r.ctx.pc Fetch Word))
       (load_happens v cpu (record r { ctx = d }) x Fetch Word (reach w.tree r.name x Fetch Word)))
       (ap (λ x. x.pc) (e k.0))
       (loaded cpu r d e r.ctx.pc Fetch Word (reach w.tree r.name r.ctx.pc Fetch Word) k.1))
@@ -469,7 +477,20 @@ module _ (own : List ℕ) (blind : ℕ → ℕ → Bool) (w : World) (u : ℕ �
       any (Some r) = tt
 
 pub outside_depends_on_outside : OutsideDependsOnOutside
-outside_depends_on_outside own blind w v e a m =
-    subst (λ t. IsAlike own blind e w (record v { tree = t })) a.tree.nodes
-    (let b = moved own blind w v.tree.words v.cpus v.caches a.tree.words a.cpus e m in
-    record { outcome = b.outcome; world = record { tree = b.tree; cpus = b.cpus } })
+outside_depends_on_outside own look w v e a m =
+    let u : World = record v { tree = record w.tree { words = v.tree.words } } in
+    let b = moved own look w v.tree.words v.cpus v.caches a.tree.words a.cpus e m in
+    let from = masks_tell_nothing u e in
+    let to = masks_tell_nothing v e in
+    let over : ◌≡◌ {A = World} (record u { tree = one_mask u.tree }) (record v { tree = one_mask v.tree }) =
+    ap (λ t. record v { tree = t }) a.tree.nodes in
+    let same = ap (λ x. what_happens x e) over in
+    let tree = sym from.tree ∙ ap (λ h. one_mask h.world.tree) same ∙ to.tree in
+    let cpus = sym from.cpus ∙ ap (λ h. h.world.cpus) same ∙ to.cpus in
+    record {
+      outcome = b.outcome ∙ sym from.outcome ∙ ap (λ h. h.outcome) same ∙ to.outcome;
+      world = record {
+        tree = trees_on look _ _ _ b.tree (bare_alike look _ _ tree);
+        cpus = subst (AlikeCpus own (what_happens w e).world.cpus) cpus b.cpus;
+      };
+    }

@@ -1,10 +1,11 @@
--- Where no word is left out, every event reads outside: the premise of the law can be met.
-use Rattle.std.proofs.Common.{ℕ, zero, suc, ◌+◌, List, [], ◌∷◌, refl, Option, Some, None}
+-- Where all of each word is seen, every event reads outside: the premise of the law can be met.
+use Rattle.std.proofs.Common.{ℕ, zero, suc, ◌+◌, List, [], ◌∷◌, ap, inl, Option, Some, None}
+use Rattle.pip_base.specs.declared.types.Size.{Size}
 use Rattle.pip_model.specs.Answers.{Five, child_of}
 use Rattle.pip_model.specs.CountToMap.{pages_needed}
 use Rattle.pip_model.specs.Events.{Event}
 use Rattle.pip_model.specs.Events as E
-use Rattle.pip_model.specs.Happens.{call_named, fault_vector}
+use Rattle.pip_model.specs.Happens.{call_named, fault_vector, written_over}
 use Rattle.pip_model.specs.Prepare.{next_in_chain}
 use Rattle.pip_model.specs.Reach.{Faulted, Place, Reached}
 use Rattle.pip_model.specs.Tree.{Node, Tree, chain, vpage}
@@ -17,49 +18,50 @@ use Rattle.pip_model.specs.declared.call_name.MemoryCall.TheVariants.{DeletePart
 use Rattle.pip_model.specs.declared.call_name.MemoryCall.TheVariants.{RemoveVAddr}
 use Rattle.pip_model.specs.declared.processors.Occupant.{Occupant}
 use Rattle.pip_outside.specs.Outside.{AboveMiss, BlockMisses, ByRunner, CallMisses, ChainMisses, DeliveryMisses}
-use Rattle.pip_outside.specs.Outside.{HandlerMisses, HandlersMiss, LinesMiss, LoadMisses, MemoryMisses, Misses}
+use Rattle.pip_outside.specs.Outside.{EntryMisses}
+use Rattle.pip_outside.specs.Outside.{HandlerMisses, HandlersMiss, LinesMiss, LoadMisses, MemoryMisses}
 use Rattle.pip_outside.specs.Outside.{NothingLeftOut, RunnerSaved, SaveMisses, StoreMisses}
-use Rattle.pip_outside.specs.Outside.{no_word}
+use Rattle.pip_outside.specs.Outside.{whole_word}
 
-misses : (q : Reached) → Misses no_word q
-misses (Place g i) = refl
-misses (Faulted f) = tt
-
-block_misses : (q : Reached) → BlockMisses no_word q
-block_misses (Place g i) = λ j l k. refl
+block_misses : (q : Reached) → BlockMisses whole_word q
+block_misses (Place g i) = λ j l k x y e. e
 block_misses (Faulted f) = tt
 
-handler_misses : (t : Tree) (p k : ℕ) → HandlerMisses [] no_word t p k
-handler_misses t p k = record { entry = misses _; block = λ n. block_misses _ }
+entry_misses : (t : Tree) (p : ℕ) (q : Reached) → EntryMisses [] whole_word t p q
+entry_misses t p (Place g i) = λ y e. inl e
+entry_misses t p (Faulted f) = tt
 
-save_misses : (t : Tree) (p k : ℕ) → SaveMisses [] no_word t p k
-save_misses t p k = record { entry = misses _; lands = λ i. absurd i }
+handler_misses : (t : Tree) (p k : ℕ) → HandlerMisses [] whole_word t p k
+handler_misses t p k = record { entry = entry_misses t p _; block = λ n. block_misses _ }
 
-handlers_miss : (w : World) (k : ℕ) (qs : List Node) → HandlersMiss [] no_word w k qs
+save_misses : (t : Tree) (p k : ℕ) → SaveMisses [] whole_word t p k
+save_misses t p k = record { entry = entry_misses t p _; lands = λ i. absurd i }
+
+handlers_miss : (w : World) (k : ℕ) (qs : List Node) → HandlersMiss [] whole_word w k qs
 handlers_miss w k [] = tt
 handlers_miss w k (q ∷ qs) = ((λ e. handler_misses w.tree q.name k), handlers_miss w k qs)
 
-above_miss : (w : World) (k : ℕ) (qs : List Node) → AboveMiss [] no_word w k qs
+above_miss : (w : World) (k : ℕ) (qs : List Node) → AboveMiss [] whole_word w k qs
 above_miss w k [] = tt
 above_miss w k (q ∷ qs) = handlers_miss w k qs
 
-delivery_misses : (w : World) (p k : ℕ) → DeliveryMisses [] no_word w p k
+delivery_misses : (w : World) (p k : ℕ) → DeliveryMisses [] whole_word w p k
 delivery_misses w p k = record { handlers = above_miss w k (chain w.tree p); save = save_misses w.tree p 63 }
 
-load_misses : (w : World) (p : ℕ) (q : Reached) → LoadMisses [] no_word w p q
-load_misses w p (Place g i) = refl
+load_misses : (w : World) (p : ℕ) (q : Reached) → LoadMisses [] whole_word w p q
+load_misses w p (Place g i) = λ x y e. e
 load_misses w p (Faulted f) = delivery_misses w p (fault_vector f)
 
-store_misses : (w : World) (p : ℕ) (q : Reached) → StoreMisses [] no_word w p q
-store_misses w p (Place g i) = tt
-store_misses w p (Faulted f) = delivery_misses w p (fault_vector f)
+store_misses : (w : World) (p va : ℕ) (z : Size) (q : Reached) → StoreMisses [] whole_word w p va z q
+store_misses w p va z (Place g i) = λ n x y e. ap (written_over va z n) e
+store_misses w p va z (Faulted f) = delivery_misses w p (fault_vector f)
 
-chain_misses : (t : Tree) (p k : ℕ) (seen : List ℕ) (a : ℕ) → ChainMisses no_word t p k seen a
+chain_misses : (t : Tree) (p k : ℕ) (seen : List ℕ) (a : ℕ) → ChainMisses whole_word t p k seen a
 chain_misses t p zero seen a = tt
 chain_misses t p (suc zero) seen a = tt
-chain_misses t p (suc (suc k)) seen a = (refl, chain_misses t p (suc k) (a ∷ seen) (next_in_chain t p a))
+chain_misses t p (suc (suc k)) seen a = ((λ x y e. e), chain_misses t p (suc k) (a ∷ seen) (next_in_chain t p a))
 
-memory_misses : (t : Tree) (p : ℕ) (a : Five) (c : MemoryCall) → MemoryMisses no_word t p a c
+memory_misses : (t : Tree) (p : ℕ) (a : Five) (c : MemoryCall) → MemoryMisses whole_word t p a c
 memory_misses t p a CreatePartition = tt
 memory_misses t p a DeletePartition = tt
 memory_misses t p a CountToMap = tt
@@ -69,18 +71,18 @@ memory_misses t p a AddVAddr = tt
 memory_misses t p a RemoveVAddr = tt
 memory_misses t p a MappedInChild = tt
 
-call_misses : (w : World) (p : ℕ) (a : Five) (c : CallName) → CallMisses [] no_word w p a c
+call_misses : (w : World) (p : ℕ) (a : Five) (c : CallName) → CallMisses [] whole_word w p a c
 call_misses w p a (OnMemory c) = memory_misses w.tree p a c
 call_misses w p a Yields =
     record { target = λ x e. handler_misses w.tree x.name a.x1; save = λ e. save_misses w.tree p a.x2 }
 call_misses w p a (Masks b) = tt
 call_misses w p a Unknown = tt
 
-lines_miss : (t : Tree) (js : List ℕ) → LinesMiss [] no_word t js
+lines_miss : (t : Tree) (js : List ℕ) → LinesMiss [] whole_word t js
 lines_miss t [] = tt
 lines_miss t (j ∷ js) = (handler_misses t t.root.name (32 + j), lines_miss t js)
 
-runner_saved : (t : Tree) (o : Option Occupant) → RunnerSaved [] no_word t o
+runner_saved : (t : Tree) (o : Option Occupant) → RunnerSaved [] whole_word t o
 runner_saved t None = tt
 runner_saved t (Some r) = save_misses t r.name 63
 
@@ -90,7 +92,7 @@ by_runner (Some r) P f = f r
 
 pub nothing_left_out : NothingLeftOut
 nothing_left_out w (E.Load cpu va z) = by_runner (runs_on w cpu) _ (λ r. load_misses w r.name _)
-nothing_left_out w (E.Store cpu va z x) = by_runner (runs_on w cpu) _ (λ r. store_misses w r.name _)
+nothing_left_out w (E.Store cpu va z x) = by_runner (runs_on w cpu) _ (λ r. store_misses w r.name va z _)
 nothing_left_out w (E.Fetch cpu) = by_runner (runs_on w cpu) _ (λ r. ((λ i. i), load_misses w r.name _))
 nothing_left_out w (E.Trap cpu k a b) = by_runner (runs_on w cpu) _ (λ r. delivery_misses w r.name k)
 nothing_left_out w (E.Call cpu number a) = by_runner (runs_on w cpu) _ (λ r. call_misses w r.name a (call_named number))

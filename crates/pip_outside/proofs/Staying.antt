@@ -29,17 +29,17 @@ use Rattle.pip_outside.specs.Unseen.{Answers, ByOneOf, GoesTo, StaysThere, IsUns
 use Rattle.pip_outside.proofs.Alikes.{alike_same, tree_alike_same, word_alike_same}
 use Rattle.pip_outside.proofs.Runners.{cpus_alike_same, set_one}
 
-module _ (own : List ℕ) (blind : ℕ → ℕ → Bool) (w : World) (cpu : ℕ) where
+module _ (own : List ℕ) (look : ℕ → ℕ → ℕ → ℕ) (w : World) (cpu : ℕ) where
   -- the tree and the processors of a world look as those of w
   record As (x : World) : Type 0 where
-    tree : AlikeTrees blind x.tree w.tree
+    tree : AlikeTrees look x.tree w.tree
     cpus : AlikeCpus own x.cpus w.cpus
 
   as_was : As w
-  as_was = record { tree = (alike_same own blind w).tree; cpus = cpus_alike_same own w.cpus }
+  as_was = record { tree = (alike_same own look w).tree; cpus = cpus_alike_same own w.cpus }
 
   -- what runs there goes on with another context
-  goes_on : (r : Occupant) (x : Ctx) (t : Tree) → In r.name own → runs_on w cpu ≡ Some r → AlikeTrees blind t w.tree
+  goes_on : (r : Occupant) (x : Ctx) (t : Tree) → In r.name own → runs_on w cpu ≡ Some r → AlikeTrees look t w.tree
       → As (with_running (record w { tree = t }) cpu (Some (record r { ctx = x })))
   goes_on r x t i k a = record {
     tree = a;
@@ -53,7 +53,7 @@ module _ (own : List ℕ) (blind : ℕ → ℕ → Bool) (w : World) (cpu : ℕ)
   loads r va a z (Place g i) m = as_was
   loads r va a z (Faulted f) m = absurd m
 
-  stores : (r : Occupant) (va : ℕ) (z : Size) (x : ℕ) (q : Reached) → GoesTo blind w.tree q
+  stores : (r : Occupant) (va : ℕ) (z : Size) (x : ℕ) (q : Reached) → GoesTo look w.tree va z x q
       → As (wrote w cpu r va z x q).world
   stores r va z x (Faulted f) m = absurd m
   stores r va z x (Place g i) m = record {
@@ -61,33 +61,29 @@ module _ (own : List ℕ) (blind : ℕ → ℕ → Bool) (w : World) (cpu : ℕ)
     cpus = cpus_alike_same own w.cpus;
   }
     where
-      not_both : {x : Bool} → x ≡ false → x ≡ true → ⊥
-      not_both f t = cc
+      word : (j : ℕ) (b : Bool) → (j == i) ≡ b
+          → look g j (cond b (written_over va z x (word_of (w.tree.words g) i)) (word_of (w.tree.words g) j))
+          ≡ look g j (word_of (w.tree.words g) j)
+      word j false e = refl
+      word j true e = rw (eqb-true j i e) m.0
 
-      word : (j : ℕ) → blind g j ≡ false → (b : Bool) → (j == i) ≡ b
-          → cond b (written_over va z x (word_of (w.tree.words g) i)) (word_of (w.tree.words g) j)
-          ≡ word_of (w.tree.words g) j
-      word j n false e = refl
-      word j n true e = absurd (not_both n (ap (blind g) (eqb-true j i e) ∙ m.0))
-
-      at : (k : ℕ) (b : Bool) → (k == g) ≡ b → AlikeWord blind k
+      at : (k : ℕ) (b : Bool) → (k == g) ≡ b → AlikeWord look k
           (cond b (Some (λ j. cond (j == i) (written_over va z x (word_of (w.tree.words g) i))
           (word_of (w.tree.words g) j))) (w.tree.words k)) (w.tree.words k)
-      at k false e = word_alike_same blind k (w.tree.words k)
+      at k false e = word_alike_same look k (w.tree.words k)
       at k true e =
           let s = eqb-true k g e in
           record {
             there = sym (ap (λ y. is_some (w.tree.words y)) s ∙ m.1);
-            words = λ j n. word j (ap (λ y. blind y j) (sym s) ∙ n) (j == i) refl
-                ∙ ap (λ y. word_of (w.tree.words y) j) (sym s);
+            words = λ j. rw s (word j (j == i) refl);
           }
 
   replies : (r : Occupant) (a : Answer) → In r.name own → runs_on w cpu ≡ Some r
-      → AlikeTrees blind (reply_happens w cpu r a).world.tree w.tree → As (reply_happens w cpu r a).world
+      → AlikeTrees look (reply_happens w cpu r a).world.tree w.tree → As (reply_happens w cpu r a).world
   replies r a i k e = goes_on r _ a.tree i k e
 
   yields : (r : Occupant) (a : Five) → In r.name own → runs_on w cpu ≡ Some r
-      → StaysThere (call Yields w cpu r a).outcome → AlikeTrees blind (call Yields w cpu r a).world.tree w.tree
+      → StaysThere (call Yields w cpu r a).outcome → AlikeTrees look (call Yields w cpu r a).world.tree w.tree
       → As (call Yields w cpu r a).world
   yields r a i k =
       let q = target_node w.tree r.name a.x0 in
@@ -95,7 +91,7 @@ module _ (own : List ℕ) (blind : ℕ → ℕ → Bool) (w : World) (cpu : ℕ)
     where
       by : (o : Option Status) (n : ℕ) (c : Option Ctx)
           → StaysThere (reply_unless w cpu r o (yield_happens w cpu r a n c)).outcome
-          → AlikeTrees blind (reply_unless w cpu r o (yield_happens w cpu r a n c)).world.tree w.tree
+          → AlikeTrees look (reply_unless w cpu r o (yield_happens w cpu r a n c)).world.tree w.tree
           → As (reply_unless w cpu r o (yield_happens w cpu r a n c)).world
       by (Some s) n c m e = replies r (refuse w.tree s) i k e
       by None n None m e = absurd m
@@ -107,7 +103,7 @@ module _ (own : List ℕ) (blind : ℕ → ℕ → Bool) (w : World) (cpu : ℕ)
       }
 
   calls : (r : Occupant) (c : CallName) (a : Five) → In r.name own → runs_on w cpu ≡ Some r
-      → StaysThere (call c w cpu r a).outcome → AlikeTrees blind (call c w cpu r a).world.tree w.tree
+      → StaysThere (call c w cpu r a).outcome → AlikeTrees look (call c w cpu r a).world.tree w.tree
       → As (call c w cpu r a).world
   calls r (OnMemory c) a i k m e = replies r (answer c w r.name a) i k e
   calls r Yields a i k m e = yields r a i k m e
@@ -121,37 +117,37 @@ module _ (own : List ℕ) (blind : ℕ → ℕ → Bool) (w : World) (cpu : ℕ)
   by_one None P f e b k = absurd b
   by_one (Some r) P f e b k = k r b.0 e b.1
 
-stays : (own : List ℕ) (blind : ℕ → ℕ → Bool) (w : World) (e : Event) → IsUnseen own blind w e
-    → Alike own blind (what_happens w e).world w
-stays own blind w e m = go e m
+stays : (own : List ℕ) (look : ℕ → ℕ → ℕ → ℕ) (w : World) (e : Event) → IsUnseen own look w e
+    → Alike own look (what_happens w e).world w
+stays own look w e m = go e m
   where
-    wrap : (cpu : ℕ) (x : World) → As own blind w cpu x → Alike own blind x w
+    wrap : (cpu : ℕ) (x : World) → As own look w cpu x → Alike own look x w
     wrap cpu x a = record { tree = a.tree; cpus = a.cpus }
 
-    go : (e : Event) → IsUnseen own blind w e → Alike own blind (what_happens w e).world w
-    go (E.Load cpu va z) m = wrap cpu _ (by_one own blind w cpu (runs_on w cpu) _
+    go : (e : Event) → IsUnseen own look w e → Alike own look (what_happens w e).world w
+    go (E.Load cpu va z) m = wrap cpu _ (by_one own look w cpu (runs_on w cpu) _
         (λ r. load_happens w cpu r va Load z (reach w.tree r.name va Load z)) refl m
-        (λ r i k h. loads own blind w cpu r va Load z (reach w.tree r.name va Load z) h))
-    go (E.Store cpu va z x) m = wrap cpu _ (by_one own blind w cpu (runs_on w cpu) _
+        (λ r i k h. loads own look w cpu r va Load z (reach w.tree r.name va Load z) h))
+    go (E.Store cpu va z x) m = wrap cpu _ (by_one own look w cpu (runs_on w cpu) _
         (λ r. wrote w cpu r va z x (reach w.tree r.name va Store z)) refl m
-        (λ r i k h. stores own blind w cpu r va z x (reach w.tree r.name va Store z) h))
-    go (E.Fetch cpu) m = wrap cpu _ (by_one own blind w cpu (runs_on w cpu) _
+        (λ r i k h. stores own look w cpu r va z x (reach w.tree r.name va Store z) h))
+    go (E.Fetch cpu) m = wrap cpu _ (by_one own look w cpu (runs_on w cpu) _
         (λ r. load_happens w cpu r r.ctx.pc Fetch Word (reach w.tree r.name r.ctx.pc Fetch Word)) refl m
-        (λ r i k h. loads own blind w cpu r r.ctx.pc Fetch Word (reach w.tree r.name r.ctx.pc Fetch Word) h))
+        (λ r i k h. loads own look w cpu r r.ctx.pc Fetch Word (reach w.tree r.name r.ctx.pc Fetch Word) h))
     go (E.Trap cpu k a b) m = absurd m
     go (E.Call cpu number a) m = wrap cpu _ (by (runs_on w cpu) refl m.0 m.1 m.2)
       where
         by : (o : Option Occupant) → runs_on w cpu ≡ o → ByOneOf own o (λ r. Unit {0})
             → StaysThere (on_running w cpu o (λ r. call (call_named number) w cpu r a)).outcome
-            → AlikeTrees blind (on_running w cpu o (λ r. call (call_named number) w cpu r a)).world.tree w.tree
-            → As own blind w cpu (on_running w cpu o (λ r. call (call_named number) w cpu r a)).world
+            → AlikeTrees look (on_running w cpu o (λ r. call (call_named number) w cpu r a)).world.tree w.tree
+            → As own look w cpu (on_running w cpu o (λ r. call (call_named number) w cpu r a)).world
         by None k b m e = absurd b
-        by (Some r) k b m e = calls own blind w cpu r (call_named number) a b.0 k m e
+        by (Some r) k b m e = calls own look w cpu r (call_named number) a b.0 k m e
     go (E.Raise j) m = absurd m
     go (E.Poll cpu) m = absurd m
-    go (E.SetContext cpu c) m = wrap cpu _ (by_one own blind w cpu (runs_on w cpu) (λ r. Unit {0})
+    go (E.SetContext cpu c) m = wrap cpu _ (by_one own look w cpu (runs_on w cpu) (λ r. Unit {0})
         (λ r. done (with_running w cpu (Some (record r { ctx = c })))) refl m
-        (λ r i k h. goes_on own blind w cpu r c w.tree i k (tree_alike_same blind w.tree)))
+        (λ r i k h. goes_on own look w cpu r c w.tree i k (tree_alike_same look w.tree)))
 
 pub unseen_is_unseen : UnseenIsUnseen
-unseen_is_unseen own blind w e m = let a = stays own blind w e m in record { tree = a.tree; cpus = a.cpus }
+unseen_is_unseen own look w e m = let a = stays own look w e m in record { tree = a.tree; cpus = a.cpus }

@@ -1,5 +1,5 @@
--- A turn that reads no word of some blind.
-use Rattle.std.proofs.Common.{◌≡◌, ℕ, Bool, List, [], ◌∷◌, refl, sym, ap, ◌∙◌, subst, Option, Some, None}
+-- A turn that reads nothing of words but what is seen.
+use Rattle.std.proofs.Common.{◌≡◌, ℕ, List, [], ◌∷◌, refl, sym, ap, ◌∙◌, subst, Option, Some, None}
 use Rattle.pip_base.specs.declared.outcome.Outcome.{Outcome}
 use Rattle.pip_base.specs.declared.outcome.Outcome.TheVariants as O
 use Rattle.pip_base.specs.declared.types.Access.TheVariants.{Fetch}
@@ -28,35 +28,35 @@ use Rattle.pip_outside.proofs.Moved.{outside_depends_on_outside}
 use Rattle.pip_outside.proofs.Runners.{at_alike}
 
 -- what runs on a processor
-pub runs_alike : (own : List ℕ) (blind : ℕ → ℕ → Bool) (w v : World) (cpu : ℕ) → Alike own blind w v
+pub runs_alike : (own : List ℕ) (look : ℕ → ℕ → ℕ → ℕ) (w v : World) (cpu : ℕ) → Alike own look w v
     → AlikeOn own (runs_on w cpu) (runs_on v cpu)
-runs_alike own blind w v cpu a = at_alike own w.cpus v.cpus cpu a.cpus
+runs_alike own look w v cpu a = at_alike own w.cpus v.cpus cpu a.cpus
 
 -- a partition outside runs there with the same context
-pub runs_there : (own : List ℕ) (blind : ℕ → ℕ → Bool) (w v : World) (cpu : ℕ) (r : Occupant) → Alike own blind w v
+pub runs_there : (own : List ℕ) (look : ℕ → ℕ → ℕ → ℕ) (w v : World) (cpu : ℕ) (r : Occupant) → Alike own look w v
     → (In r.name own → ⊥) → runs_on w cpu ≡ Some r → runs_on v cpu ≡ Some r
-runs_there own blind w v cpu r a n k =
-    go (runs_on v cpu) (subst (λ o. AlikeOn own o (runs_on v cpu)) k (runs_alike own blind w v cpu a))
+runs_there own look w v cpu r a n k =
+    go (runs_on v cpu) (subst (λ o. AlikeOn own o (runs_on v cpu)) k (runs_alike own look w v cpu a))
   where
     go : (o : Option Occupant) → AlikeOn own (Some r) o → o ≡ Some r
     go None l = absurd l
     go (Some q) l = sym (let f = l.0 in let g = l.1 n in λ i. Some (record { name = f i; ctx = g i }))
 
-pub idle_there : (own : List ℕ) (blind : ℕ → ℕ → Bool) (w v : World) (cpu : ℕ) → Alike own blind w v
+pub idle_there : (own : List ℕ) (look : ℕ → ℕ → ℕ → ℕ) (w v : World) (cpu : ℕ) → Alike own look w v
     → runs_on w cpu ≡ None
     → runs_on v cpu ≡ None
-idle_there own blind w v cpu a k =
-    go (runs_on v cpu) (subst (λ o. AlikeOn own o (runs_on v cpu)) k (runs_alike own blind w v cpu a))
+idle_there own look w v cpu a k =
+    go (runs_on v cpu) (subst (λ o. AlikeOn own o (runs_on v cpu)) k (runs_alike own look w v cpu a))
   where
     go : (o : Option Occupant) → AlikeOn own None o → o ≡ None
     go None l = refl
     go (Some q) l = absurd l
 
-pub all_alike : (own : List ℕ) (blind : ℕ → ℕ → Bool) (es : List Event) (w v : World) → Alike own blind w v
-    → AllReadOutside own blind w es → Alike own blind (after w es) (after v es)
-all_alike own blind [] w v a m = a
-all_alike own blind (e ∷ es) w v a m =
-    all_alike own blind es (event w e).world (event v e).world (outside_depends_on_outside own blind w v e a m.0).world
+pub all_alike : (own : List ℕ) (look : ℕ → ℕ → ℕ → ℕ) (es : List Event) (w v : World) → Alike own look w v
+    → AllReadOutside own look w es → Alike own look (after w es) (after v es)
+all_alike own look [] w v a m = a
+all_alike own look (e ∷ es) w v a m =
+    all_alike own look es (event w e).world (event v e).world (outside_depends_on_outside own look w v e a m.0).world
     m.1
 
 -- what is done where a partition runs
@@ -81,27 +81,27 @@ fetch_idle w cpu u k e =
     (λ r. load_happens w cpu r r.ctx.pc Fetch Word (reach w.tree r.name r.ctx.pc Fetch Word))).outcome) k in
     let idle : O.Idle ≡ O.Word u = sym d ∙ e in cc
 
-module _ (own : List ℕ) (blind : ℕ → ℕ → Bool) (cpu t : ℕ) where
+module _ (own : List ℕ) (look : ℕ → ℕ → ℕ → ℕ) (cpu t : ℕ) where
   -- the outcome of an event after another
-  second : (w v : World) (a e : Event) → Alike own blind w v → ReadsOutside own blind w a
-      → ReadsOutside own blind (world_of w a) e → outcome_of (world_of w a) e ≡ outcome_of (world_of v a) e
+  second : (w v : World) (a e : Event) → Alike own look w v → ReadsOutside own look w a
+      → ReadsOutside own look (world_of w a) e → outcome_of (world_of w a) e ≡ outcome_of (world_of v a) e
   second w v a e k m n =
-      (outside_depends_on_outside own blind (world_of w a) (world_of v a) e
-      (outside_depends_on_outside own blind w v a k m).world n).outcome
+      (outside_depends_on_outside own look (world_of w a) (world_of v a) e
+      (outside_depends_on_outside own look w v a k m).world n).outcome
 
-  effect_alike : (w v : World) (x : Ctx) (f : Effect) → Alike own blind w v
-      → AllReadOutside own blind w (events_made (effect_acts w t cpu x f))
+  effect_alike : (w v : World) (x : Ctx) (f : Effect) → Alike own look w v
+      → AllReadOutside own look w (events_made (effect_acts w t cpu x f))
       → effect_acts w t cpu x f ≡ effect_acts v t cpu x f
   effect_alike w v x (F.Sets a n) k m = refl
   effect_alike w v x (F.Goes pc) k m = refl
   effect_alike w v x (F.Links a pc) k m = refl
   effect_alike w v x (F.Shows n) k m = refl
   effect_alike w v x (F.Loads a va z) k m = ap (λ o. Makes (E.Load cpu va z) ∷ load_acts t cpu x a o)
-      (outside_depends_on_outside own blind w v (E.Load cpu va z) k m.0).outcome
+      (outside_depends_on_outside own look w v (E.Load cpu va z) k m.0).outcome
   effect_alike w v x (F.Stores va n z) k m = ap (λ o. Makes (E.Store cpu va z n) ∷ store_acts t cpu x o)
-      (outside_depends_on_outside own blind w v (E.Store cpu va z n) k m.0).outcome
+      (outside_depends_on_outside own look w v (E.Store cpu va z n) k m.0).outcome
   effect_alike w v x (F.Traps j a b) k m = ap (λ o. Makes (E.Trap cpu j a b) ∷ move_acts t cpu o)
-      (outside_depends_on_outside own blind w v (E.Trap cpu j a b) k m.0).outcome
+      (outside_depends_on_outside own look w v (E.Trap cpu j a b) k m.0).outcome
   effect_alike w v x (F.Interrupts j) k m =
       let a = E.SetContext cpu (at_next x) in
       let e = E.Trap cpu j 0 0 in
@@ -112,28 +112,28 @@ module _ (own : List ℕ) (blind : ℕ → ℕ → Bool) (cpu t : ℕ) where
       ap (λ o. Makes a ∷ Makes e ∷ Writes (call_line t cpu n o) ∷ []) (second w v a e k m.0 m.1.0)
 
   word_alike : (w v : World) (u : ℕ) (o : Option Occupant) → runs_on w cpu ≡ o
-      → ((r : Occupant) → o ≡ Some r → In r.name own → ⊥) → Alike own blind w v
-      → AllReadOutside own blind w (events_made (word_acts w t cpu u o))
+      → ((r : Occupant) → o ≡ Some r → In r.name own → ⊥) → Alike own look w v
+      → AllReadOutside own look w (events_made (word_acts w t cpu u o))
       → word_acts w t cpu u o ≡ word_acts v t cpu u (runs_on v cpu)
-  word_alike w v u None k n a m = sym (ap (word_acts v t cpu u) (idle_there own blind w v cpu a k))
+  word_alike w v u None k n a m = sym (ap (word_acts v t cpu u) (idle_there own look w v cpu a k))
   word_alike w v u (Some r) k n a m =
       effect_alike w v r.ctx (word_effect r.ctx u (instr_of u)) a m
-      ∙ sym (ap (word_acts v t cpu u) (runs_there own blind w v cpu r a (n r refl) k))
+      ∙ sym (ap (word_acts v t cpu u) (runs_there own look w v cpu r a (n r refl) k))
 
   -- what was fetched is that of a partition outside
   outside : (w : World) (u : ℕ) (o : Option Occupant) → runs_on w cpu ≡ o
-      → ReadsOutside own blind w (E.Fetch cpu) → outcome_of w (E.Fetch cpu) ≡ O.Word u
+      → ReadsOutside own look w (E.Fetch cpu) → outcome_of w (E.Fetch cpu) ≡ O.Word u
       → (r : Occupant) → runs_on (world_of w (E.Fetch cpu)) cpu ≡ Some r → In r.name own → ⊥
   outside w u None k m e = absurd (fetch_idle w cpu u k e)
   outside w u (Some q) k m e =
       let f = subst (λ o. ByRunner o (λ r. (In r.name own
-      → ⊥) × LoadMisses own blind w r.name (reach w.tree r.name r.ctx.pc Fetch Word))) k m in
+      → ⊥) × LoadMisses own look w r.name (reach w.tree r.name r.ctx.pc Fetch Word))) k m in
       λ r h i.
       let d : Some q ≡ Some r = sym k ∙ sym (ap (λ x. runs_on x cpu) (fetch_stays w cpu u q k e)) ∙ h in
       let same : q ≡ r = cc in
       f.0 (subst (λ z. In z own) (ap (λ z. z.name) (sym same)) i)
 
-  fetch_alike : (w v : World) → Alike own blind w v → AllReadOutside own blind w (events_made (fetch_acts w t cpu))
+  fetch_alike : (w v : World) → Alike own look w v → AllReadOutside own look w (events_made (fetch_acts w t cpu))
       → fetch_acts w t cpu ≡ fetch_acts v t cpu
   fetch_alike w v a m = ap (λ l. Makes (E.Fetch cpu) ∷ l)
       (go (outcome_of w (E.Fetch cpu)) refl m.1 ∙ ap (acts_after_fetch there t cpu) z.outcome)
@@ -144,11 +144,11 @@ module _ (own : List ℕ) (blind : ℕ → ℕ → Bool) (cpu t : ℕ) where
       there : World
       there = world_of v (E.Fetch cpu)
 
-      z : IsAlike own blind (E.Fetch cpu) w v
-      z = outside_depends_on_outside own blind w v (E.Fetch cpu) a m.0
+      z : IsAlike own look (E.Fetch cpu) w v
+      z = outside_depends_on_outside own look w v (E.Fetch cpu) a m.0
 
       go : (o : Outcome) → outcome_of w (E.Fetch cpu) ≡ o
-          → AllReadOutside own blind here (events_made (acts_after_fetch here t cpu o))
+          → AllReadOutside own look here (events_made (acts_after_fetch here t cpu o))
           → acts_after_fetch here t cpu o ≡ acts_after_fetch there t cpu o
       go (O.Word u) e n = word_alike here there u (runs_on here cpu) refl
           (outside w u (runs_on w cpu) refl m.0 e) z.world n
@@ -158,7 +158,7 @@ module _ (own : List ℕ) (blind : ℕ → ℕ → Bool) (cpu t : ℕ) where
       go (O.Parked x k) e n = refl
       go O.Idle e n = refl
 
-  turn_acts : (w v : World) → Alike own blind w v → TurnReadsOutside own blind w cpu t → turn w cpu t ≡ turn v cpu t
+  turn_acts : (w v : World) → Alike own look w v → TurnReadsOutside own look w cpu t → turn w cpu t ≡ turn v cpu t
   turn_acts w v a m = ap (λ l. Makes (E.Poll cpu) ∷ l)
       (go (outcome_of w (E.Poll cpu)) m.1 ∙ ap (acts_after_poll there t cpu) z.outcome)
     where
@@ -168,10 +168,10 @@ module _ (own : List ℕ) (blind : ℕ → ℕ → Bool) (cpu t : ℕ) where
       there : World
       there = world_of v (E.Poll cpu)
 
-      z : IsAlike own blind (E.Poll cpu) w v
-      z = outside_depends_on_outside own blind w v (E.Poll cpu) a m.0
+      z : IsAlike own look (E.Poll cpu) w v
+      z = outside_depends_on_outside own look w v (E.Poll cpu) a m.0
 
-      go : (o : Outcome) → AllReadOutside own blind here (events_made (acts_after_poll here t cpu o))
+      go : (o : Outcome) → AllReadOutside own look here (events_made (acts_after_poll here t cpu o))
           → acts_after_poll here t cpu o ≡ acts_after_poll there t cpu o
       go (O.Switched x y k) n = refl
       go O.Idle n = refl
@@ -181,12 +181,12 @@ module _ (own : List ℕ) (blind : ℕ → ℕ → Bool) (cpu t : ℕ) where
       go (O.Parked x k) n = fetch_alike here there z.world n
 
 pub turns_depend_on_outside : TurnsDependOnOutside
-turns_depend_on_outside own blind w v cpu step a m =
-    let same = turn_acts own blind cpu step w v a m in
-    let l = all_alike own blind (events_made (turn w cpu step)) w v a m in
+turns_depend_on_outside own look w v cpu step a m =
+    let same = turn_acts own look cpu step w v a m in
+    let l = all_alike own look (events_made (turn w cpu step)) w v a m in
     record {
       acts = same;
-      world = subst (λ x. Alike own blind x (after_acts v (turn v cpu step))) (sym (after-events w (turn w cpu step)))
-          (subst (Alike own blind (after w (events_made (turn w cpu step))))
+      world = subst (λ x. Alike own look x (after_acts v (turn v cpu step))) (sym (after-events w (turn w cpu step)))
+          (subst (Alike own look (after w (events_made (turn w cpu step))))
           (ap (λ acts. after v (events_made acts)) same ∙ sym (after-events v (turn v cpu step))) l);
     }

@@ -1,5 +1,5 @@
--- Which events of a partition do the same, and what follows where all pages that it may store to are left out.
-use Rattle.std.specs.Prelude.{◌≡◌, ◌≢◌, ℕ, ◌+◌, ◌*◌, ◌<◌, ◌≤◌, ◌⊎◌, Bool, true, false}
+-- Which events of a partition do the same, and which of them leave it.
+use Rattle.std.specs.Prelude.{◌≡◌, ◌≢◌, ℕ, ◌+◌, ◌-◌, ◌*◌, ◌<◌, ◌≤◌, ◌⊎◌, Bool, true}
 use Rattle.std.specs.Prelude.{◌==◌, List, filter, length, Some, None, bit_and, is_some}
 use Rattle.pip_base.specs.declared.outcome.Outcome.{Outcome}
 use Rattle.pip_base.specs.declared.outcome.Outcome.TheVariants as O
@@ -10,15 +10,17 @@ use Rattle.pip_base.specs.declared.types.Size.{Size}
 use Rattle.pip_base.specs.declared.types.Size.TheVariants.{Word}
 use Rattle.pip_model.specs.Answers.{Five, first_met}
 use Rattle.pip_model.specs.CreatePartition.{create_refusals}
+use Rattle.pip_base.specs.declared.types.Ctx.{Ctx}
 use Rattle.pip_model.specs.Deliver.{nearest_taker}
+use Rattle.pip_model.specs.Handlers.{context_word}
 use Rattle.pip_model.specs.Events.{Event}
 use Rattle.pip_model.specs.Events as E
-use Rattle.pip_model.specs.Happens.{call_named, event, fault_number, fault_vector, what_happens}
+use Rattle.pip_model.specs.Happens.{call_named, event, fault_number, fault_vector, what_happens, written_over}
 use Rattle.pip_model.specs.Lists.{In}
 use Rattle.pip_model.specs.Reach.{Fault, Faulted, Place, Reached, reach}
 use Rattle.pip_model.specs.Sound.{IsSound}
-use Rattle.pip_model.specs.Switching.{yield_place}
-use Rattle.pip_model.specs.Tree.{Node, Row, Tree, child_at, names_of, node, nodes}
+use Rattle.pip_model.specs.Switching.{with_zeros, yield_place}
+use Rattle.pip_model.specs.Tree.{Row, Tree, child_at, names_of, node, nodes, word_of}
 use Rattle.pip_model.specs.Worlds.{World, ctx_on, runs_on}
 use Rattle.pip_model.specs.declared.call_name.CallName.TheVariants.{Masks, Yields}
 use Rattle.pip_model.specs.declared.processors.Occupant.{Occupant}
@@ -54,20 +56,25 @@ UntakenWordsDoNotMatter = (w : World) (cpu k a b c d : ℕ) (r : Occupant) → r
 
 -- each of them is seen by nobody
 abbrev pub RefusedIsUnseen : Type 0
-RefusedIsUnseen = (own : List ℕ) (blind : ℕ → ℕ → Bool) (w : World) (cpu number : ℕ) (a : Five) (r : Occupant)
+RefusedIsUnseen = (own : List ℕ) (look : ℕ → ℕ → ℕ → ℕ) (w : World) (cpu number : ℕ) (a : Five) (r : Occupant)
     (s : Status) (v : ℕ)
     → runs_on w cpu ≡ Some r → In r.name own → (event w (E.Call cpu number a)).outcome ≡ O.Reply s v → s ≢ S.Ok
-    → IsUnseen own blind w (E.Call cpu number a)
+    → IsUnseen own look w (E.Call cpu number a)
+
+-- so is each vcli and vsti of a partition that isn't the root
+abbrev pub MasksAreUnseen : Type 0
+MasksAreUnseen = (own : List ℕ) (look : ℕ → ℕ → ℕ → ℕ) (w : World) (cpu number : ℕ) (a : Five) (r : Occupant) (b : Bool)
+    → runs_on w cpu ≡ Some r → In r.name own → r.name ≢ w.tree.root.name → call_named number ≡ Masks b
+    → IsUnseen own look w (E.Call cpu number a)
 
 -- ---- partitions that can't do more
 
--- a partition, not the root, without children, to which createPartition is always refused. (The last two are so in each
--- sound tree: no other has the root's name, and what a partition reaches has words)
+-- a partition, not the root, without children, to which createPartition is always refused. (The last is so in each
+-- sound tree: what a partition reaches has words)
 pub record IsConfined (t : Tree) (p : ℕ) : Type 0 where
   pub leaf : (d : ℕ) → child_at t p d ≡ None
   pub creates : (a : Five) → first_met (create_refusals t p a) ≢ None
   pub other : p ≢ t.root.name
-  pub alone : (x : Node) → In x t.others → x.name ≢ t.root.name
   pub there : (va g i : ℕ) (z : Size) → reach t p va Store z ≡ Place g i → is_some (t.words g) ≡ true
 
 -- an access faults
@@ -84,29 +91,30 @@ GoesAway p O.Done = ⊥
 GoesAway p (O.Reply s v) = ⊥
 GoesAway p O.Idle = ⊥
 
--- a store faults, or goes to a word that is not left out
-abbrev pub IsSeen : (ℕ → ℕ → Bool) → Reached → Type 0
-IsSeen blind (Place g i) = blind g i ≡ false
-IsSeen blind (Faulted f) = Unit {0}
+-- a store of n faults, or changes what is seen of a word
+abbrev pub IsSeen : (ℕ → ℕ → ℕ → ℕ) → Tree → ℕ → Size → ℕ → Reached → Type 0
+IsSeen look t va z n (Place g i) =
+    look g i (written_over va z n (word_of (t.words g) i)) ≢ look g i (word_of (t.words g) i)
+IsSeen look t va z n (Faulted f) = Unit {0}
 
--- a save goes to some word that is not left out
-abbrev pub SaveIsSeen : (ℕ → ℕ → Bool) → Reached → Type 0
-SaveIsSeen blind (Place g i) = (j : ℕ) × (i ≤ j) × (j < i + 17) × (blind g j ≡ false)
-SaveIsSeen blind (Faulted f) = ⊥
+-- a save of c changes what is seen of some word
+abbrev pub SaveIsSeen : (ℕ → ℕ → ℕ → ℕ) → Tree → Ctx → Reached → Type 0
+SaveIsSeen look t c (Place g i) = (j : ℕ) × (i ≤ j) × (j < i + 17)
+    × (look g j (context_word c (j - i)) ≢ look g j (word_of (t.words g) j))
+SaveIsSeen look t c (Faulted f) = ⊥
 
--- p makes an access that faults, a store to a word that is not left out, a trap, a yield that enters another or saves
--- to such a word, or vcli or vsti
-abbrev pub IsExit : (ℕ → ℕ → Bool) → World → ℕ → Event → Type 0
-IsExit blind w p (E.Load cpu va z) = Faults (reach w.tree p va Load z)
-IsExit blind w p (E.Store cpu va z x) = IsSeen blind (reach w.tree p va Store z)
-IsExit blind w p (E.Fetch cpu) = Faults (reach w.tree p (ctx_on w cpu).pc Fetch Word)
-IsExit blind w p (E.Trap cpu k a b) = Unit {0}
-IsExit blind w p (E.Call cpu number a) = GoesAway p (event w (E.Call cpu number a)).outcome
-    ⊎ (((b : Bool) × (call_named number ≡ Masks b))
-    ⊎ ((call_named number ≡ Yields) × SaveIsSeen blind (yield_place w.tree p a.x2)))
-IsExit blind w p (E.Raise j) = ⊥
-IsExit blind w p (E.Poll cpu) = ⊥
-IsExit blind w p (E.SetContext cpu c) = ⊥
+-- p makes an access that faults, a store that changes what is seen of a word, a trap, or a yield that enters another or
+-- saves so
+abbrev pub IsExit : (ℕ → ℕ → ℕ → ℕ) → World → ℕ → Event → Type 0
+IsExit look w p (E.Load cpu va z) = Faults (reach w.tree p va Load z)
+IsExit look w p (E.Store cpu va z x) = IsSeen look w.tree va z x (reach w.tree p va Store z)
+IsExit look w p (E.Fetch cpu) = Faults (reach w.tree p (ctx_on w cpu).pc Fetch Word)
+IsExit look w p (E.Trap cpu k a b) = Unit {0}
+IsExit look w p (E.Call cpu number a) = GoesAway p (event w (E.Call cpu number a)).outcome
+    ⊎ ((call_named number ≡ Yields) × SaveIsSeen look w.tree (with_zeros (ctx_on w cpu)) (yield_place w.tree p a.x2))
+IsExit look w p (E.Raise j) = ⊥
+IsExit look w p (E.Poll cpu) = ⊥
+IsExit look w p (E.SetContext cpu c) = ⊥
 
 -- an event that what runs on a processor makes
 abbrev pub IsMadeOn : ℕ → Event → Type 0
@@ -121,14 +129,14 @@ IsMadeOn cpu (E.SetContext c x) = c ≡ cpu
 
 -- each other event of such a partition stays inside
 abbrev pub ConfinedStaysOrExits : Type 0
-ConfinedStaysOrExits = (own : List ℕ) (blind : ℕ → ℕ → Bool) (w : World) (cpu : ℕ) (e : Event) (r : Occupant)
+ConfinedStaysOrExits = (own : List ℕ) (look : ℕ → ℕ → ℕ → ℕ) (w : World) (cpu : ℕ) (e : Event) (r : Occupant)
     → runs_on w cpu ≡ Some r → In r.name own → IsConfined w.tree r.name → IsMadeOn cpu e
-    → IsUnseen own blind w e ⊎ IsExit blind w r.name e
+    → IsUnseen own look w e ⊎ IsExit look w r.name e
 
--- that a partition is confined depends on no words
+-- that a partition is confined depends on no words and masks
 abbrev pub ConfinedAlike : Type 0
 ConfinedAlike =
-    (blind : ℕ → ℕ → Bool) (t u : Tree) (p : ℕ) → AlikeTrees blind t u → IsConfined t p → IsConfined u p
+    (look : ℕ → ℕ → ℕ → ℕ) (t u : Tree) (p : ℕ) → AlikeTrees look t u → IsConfined t p → IsConfined u p
 
 -- in a sound tree: a partition of the tree, not the root, without children, to which createPartition is refused
 abbrev pub SoundConfines : Type 0

@@ -1,33 +1,32 @@
--- A test of an event, by which a search can say that nothing outside reads the words that are left out.
-use Rattle.std.specs.Prelude.{ℕ, zero, suc, ◌+◌, ◌==◌, ◌&&◌, ◌||◌, nat_lt, not, Bool, true, List, [], ◌∷◌, length}
-use Rattle.std.specs.Prelude.{Option, Some, None}
-use Rattle.pip_base.specs.declared.types.Access.TheVariants.{Load, Store, Fetch}
+-- A test of an event, by which a search can say that nothing outside reads the words that are left out: the tests of
+-- Sights, where all of each other word is seen.
+use Rattle.std.specs.Prelude.{ℕ, ◌==◌, ◌&&◌, nat_lt, not, Bool, true, List, length, Option}
 use Rattle.pip_base.specs.declared.types.Size.TheVariants.{Word}
-use Rattle.pip_model.specs.Answers.{Five, page_of}
+use Rattle.pip_model.specs.Answers.{Five}
 use Rattle.pip_model.specs.Events.{Event}
-use Rattle.pip_model.specs.Events as E
-use Rattle.pip_model.specs.Handlers.{block, save_place}
-use Rattle.pip_model.specs.Happens.{call_named, event, fault_vector}
 use Rattle.pip_model.specs.Lists.{has}
-use Rattle.pip_model.specs.Prepare.{next_in_chain}
-use Rattle.pip_model.specs.Reach.{Faulted, Place, Reached, reach}
-use Rattle.pip_model.specs.Switching.{target_node}
-use Rattle.pip_model.specs.Tree.{Node, Tree, chain, children}
-use Rattle.pip_model.specs.Worlds.{World, running, runs_on}
+use Rattle.pip_model.specs.Reach.{Faulted, Place, Reached}
+use Rattle.pip_model.specs.Tree.{Node, Tree, children}
+use Rattle.pip_model.specs.Worlds.{World}
 use Rattle.pip_model.specs.declared.call_name.CallName.{CallName}
-use Rattle.pip_model.specs.declared.call_name.CallName.TheVariants.{Masks, OnMemory, Unknown, Yields}
 use Rattle.pip_model.specs.declared.call_name.MemoryCall.{MemoryCall}
-use Rattle.pip_model.specs.declared.call_name.MemoryCall.TheVariants.{Prepare}
 use Rattle.pip_model.specs.declared.processors.Occupant.{Occupant}
 use Rattle.pip_outside.specs.Exits.{writable_rows}
-use Rattle.pip_outside.specs.Outside.{entry_place, block_place}
-
--- ---- words
+use Rattle.pip_outside.specs.Sights.{Sight}
+use Rattle.pip_outside.specs.Sights as S
 
 -- a test of n numbers from i on
 abbrev pub all_from : (ℕ → Bool) → ℕ → ℕ → Bool
-all_from f zero i = true
-all_from f (suc n) i = f i && all_from f n (i + 1)
+all_from f n i = S.each_from f n i
+
+-- all words are seen but those that are left out
+abbrev pub but : (ℕ → ℕ → Bool) → Sight
+but blind = record {
+  seen = λ g i. not (blind g i);
+  blind = blind;
+  entry = λ t p g i. not (blind g i);
+  stores = λ z g i. true;
+}
 
 -- what is reached is no word that is left out
 abbrev pub misses : (ℕ → ℕ → Bool) → Reached → Bool
@@ -36,114 +35,75 @@ misses blind (Faulted f) = true
 
 -- no word of a block is
 abbrev pub block_misses : (ℕ → ℕ → Bool) → Reached → Bool
-block_misses blind (Place g i) = all_from (λ j. not (blind g j)) 17 i
-block_misses blind (Faulted f) = true
+block_misses blind q = S.block_passes (but blind) q
 
 -- each word of a block is
 abbrev pub lands : (ℕ → ℕ → Bool) → Reached → Bool
-lands blind (Place g i) = all_from (λ j. blind g j) 17 i
-lands blind (Faulted f) = true
-
--- ---- handlers, and saves
+lands blind q = S.block_blind (but blind) q
 
 -- p's entry for vector k, and its block unless p is one of these partitions
 abbrev pub handler_misses : List ℕ → (ℕ → ℕ → Bool) → Tree → ℕ → ℕ → Bool
-handler_misses own blind t p k =
-    misses blind (entry_place t p k) && (has own p || block_misses blind (block_place t p (block t p k)))
+handler_misses own blind t p k = S.handler_passes own (but blind) t p k
 
 -- those of partitions of a list that don't run
 abbrev pub handlers_miss : List ℕ → (ℕ → ℕ → Bool) → World → ℕ → List Node → Bool
-handlers_miss own blind w k [] = true
-handlers_miss own blind w k (q ∷ qs) =
-    (has (running w) q.name || handler_misses own blind w.tree q.name k) && handlers_miss own blind w k qs
+handlers_miss own blind w k qs = S.handlers_pass own (but blind) w k qs
 
 -- and above the first of a list
 abbrev pub above_miss : List ℕ → (ℕ → ℕ → Bool) → World → ℕ → List Node → Bool
-above_miss own blind w k [] = true
-above_miss own blind w k (p ∷ qs) = handlers_miss own blind w k qs
+above_miss own blind w k qs = S.above_pass own (but blind) w k qs
 
 -- a save of p in its block for vector k
 abbrev pub save_misses : List ℕ → (ℕ → ℕ → Bool) → Tree → ℕ → ℕ → Bool
-save_misses own blind t p k =
-    misses blind (entry_place t p k) && (not (has own p) || lands blind (save_place t p k))
+save_misses own blind t p k = S.save_passes own (but blind) t p k
 
 -- a vector that is delivered for what p does
 abbrev pub delivery_misses : List ℕ → (ℕ → ℕ → Bool) → World → ℕ → ℕ → Bool
-delivery_misses own blind w p k =
-    above_miss own blind w k (chain w.tree p) && save_misses own blind w.tree p 63
-
--- ---- events
+delivery_misses own blind w p k = S.delivery_passes own (but blind) w p k
 
 -- a load or a fetch, by what it reaches
 abbrev pub load_misses : List ℕ → (ℕ → ℕ → Bool) → World → ℕ → Reached → Bool
-load_misses own blind w p (Place g i) = not (blind g i)
-load_misses own blind w p (Faulted f) = delivery_misses own blind w p (fault_vector f)
+load_misses own blind w p q = S.load_passes own (but blind) w p q
 
 -- a store, by what it reaches
 abbrev pub store_misses : List ℕ → (ℕ → ℕ → Bool) → World → ℕ → Reached → Bool
-store_misses own blind w p (Place g i) = true
-store_misses own blind w p (Faulted f) = delivery_misses own blind w p (fault_vector f)
+store_misses own blind w p q = S.store_passes own (but blind) w p Word q
 
 -- the first pages of a chain from an address on
 abbrev pub chain_misses : (ℕ → ℕ → Bool) → Tree → ℕ → ℕ → ℕ → Bool
-chain_misses blind t p zero a = true
-chain_misses blind t p (suc k) a =
-    not (blind (page_of t p a) 0) && chain_misses blind t p k (next_in_chain t p a)
+chain_misses blind t p k a = S.chain_passes (but blind) t p k a
 
--- a call on memory. A chain has four pages at most, and the last isn't looked at
+-- a call on memory
 abbrev pub memory_misses : (ℕ → ℕ → Bool) → Tree → ℕ → Five → MemoryCall → Bool
-memory_misses blind t p a Prepare = chain_misses blind t p 3 a.x2
-memory_misses blind t p a _ = true
+memory_misses blind t p a c = S.memory_passes (but blind) t p a c
 
 -- the target of a yield, if there is one
 abbrev pub target_misses : List ℕ → (ℕ → ℕ → Bool) → Tree → ℕ → Option Node → Bool
-target_misses own blind t k None = true
-target_misses own blind t k (Some x) = handler_misses own blind t x.name k
+target_misses own blind t k o = S.target_passes own (but blind) t k o
 
 -- a yield
 abbrev pub yield_misses : List ℕ → (ℕ → ℕ → Bool) → Tree → ℕ → Five → Bool
-yield_misses own blind t p a = target_misses own blind t a.x1 (target_node t p a.x0)
-    && (not (nat_lt a.x2 256) || save_misses own blind t p a.x2)
+yield_misses own blind t p a = S.yield_passes own (but blind) t p a
 
 -- a call
 abbrev pub call_misses : List ℕ → (ℕ → ℕ → Bool) → Tree → ℕ → Five → CallName → Bool
-call_misses own blind t p a (OnMemory c) = memory_misses blind t p a c
-call_misses own blind t p a Yields = yield_misses own blind t p a
-call_misses own blind t p a (Masks b) = true
-call_misses own blind t p a Unknown = true
+call_misses own blind t p a c = S.call_passes own (but blind) t p a c
 
 -- the root's handlers of these lines
 abbrev pub lines_miss : List ℕ → (ℕ → ℕ → Bool) → Tree → List ℕ → Bool
-lines_miss own blind t [] = true
-lines_miss own blind t (j ∷ js) = handler_misses own blind t t.root.name (32 + j) && lines_miss own blind t js
-
--- by what runs on a processor, if anything does
-abbrev pub if_one_runs : Option Occupant → (Occupant → Bool) → Bool
-if_one_runs None f = true
-if_one_runs (Some r) f = f r
+lines_miss own blind t js = S.lines_pass own (but blind) t js
 
 -- an event reads no word that is left out
 abbrev pub reads_outside : List ℕ → (ℕ → ℕ → Bool) → World → Event → Bool
-reads_outside own blind w (E.Load cpu va z) =
-    if_one_runs (runs_on w cpu) (λ r. load_misses own blind w r.name (reach w.tree r.name va Load z))
-reads_outside own blind w (E.Store cpu va z x) =
-    if_one_runs (runs_on w cpu) (λ r. store_misses own blind w r.name (reach w.tree r.name va Store z))
-reads_outside own blind w (E.Fetch cpu) = if_one_runs (runs_on w cpu)
-    (λ r. not (has own r.name) && load_misses own blind w r.name (reach w.tree r.name r.ctx.pc Fetch Word))
-reads_outside own blind w (E.Trap cpu k a b) =
-    if_one_runs (runs_on w cpu) (λ r. delivery_misses own blind w r.name k)
-reads_outside own blind w (E.Call cpu number a) =
-    if_one_runs (runs_on w cpu) (λ r. call_misses own blind w.tree r.name a (call_named number))
-reads_outside own blind w (E.Raise j) = true
-reads_outside own blind w (E.Poll cpu) = lines_miss own blind w.tree w.tree.root.pending
-    && if_one_runs (runs_on w cpu) (λ r. save_misses own blind w.tree r.name 63)
-reads_outside own blind w (E.SetContext cpu c) = true
+reads_outside own blind w e = S.event_passes own (but blind) w e
 
 -- no event of a list, each at its moment, does
 abbrev pub all_read_outside : List ℕ → (ℕ → ℕ → Bool) → World → List Event → Bool
-all_read_outside own blind w [] = true
-all_read_outside own blind w (e ∷ es) =
-    reads_outside own blind w e && all_read_outside own blind (event w e).world es
+all_read_outside own blind w es = S.events_pass own (but blind) w es
+
+-- by what runs on a processor, if anything does
+abbrev pub if_one_runs : Option Occupant → (Occupant → Bool) → Bool
+if_one_runs o f = S.if_runs o f
 
 -- ---- partitions
 

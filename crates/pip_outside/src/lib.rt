@@ -1,22 +1,28 @@
-//! What partitions outside depend on in a partition whose pages they don't read. The functions here compute nothing:
-//! each is a law, which its contract says.
+//! What partitions outside depend on in a partition of whose words they read nothing but what is seen. The functions
+//! here compute nothing: each is a law, which its contract says.
 #![tactic(auto)]
 
+ghost use Rattle.pip_outside.specs.Entries.{ClassesAreSights, EntriesHaveClasses};
 ghost use Rattle.pip_outside.specs.Exits.{ConfinedAlike, ConfinedStaysOrExits, FewPagesCreateNone, SoundConfines};
-ghost use Rattle.pip_outside.specs.Exits.{FetchFaultsAreTraps, LoadFaultsAreTraps, RefusedIsUnseen};
+ghost use Rattle.pip_outside.specs.Exits.{FetchFaultsAreTraps, LoadFaultsAreTraps, MasksAreUnseen, RefusedIsUnseen};
 ghost use Rattle.pip_outside.specs.Exits.{StoreFaultsAreTraps, UntakenWordsDoNotMatter};
 ghost use Rattle.pip_outside.specs.Outside.{NothingLeftOut, OutsideDependsOnOutside};
+ghost use Rattle.pip_outside.specs.Sights.{SightsPass};
 ghost use Rattle.pip_outside.specs.Turns.{TurnsDependOnOutside};
 ghost use Rattle.pip_outside.specs.Unseen.{UnseenIsUnseen};
 
-/// An event, and a turn, that reads no word of some pages is the same in two worlds that look alike from outside of
-/// these pages; and what their partitions do in them is seen by nobody until it leaves.
+/// An event, and a turn, that reads nothing of words but what is seen is the same in two worlds that look alike from
+/// outside of some partitions; and what these do inside is seen by nobody until it leaves.
 pub fn law_outside()
     ensures depends { OutsideDependsOnOutside }
     ensures turns { TurnsDependOnOutside }
     ensures unseen { UnseenIsUnseen }
     ensures refused { RefusedIsUnseen }
+    ensures masks { MasksAreUnseen }
     ensures nothing { NothingLeftOut }
+    ensures entries { EntriesHaveClasses }
+    ensures tested { SightsPass }
+    ensures classes { ClassesAreSights }
 {}
 
 /// Which events leave a partition that is confined, and which of them do the same.

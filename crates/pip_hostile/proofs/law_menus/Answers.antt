@@ -1,5 +1,6 @@
 use Rattle.pip_hostile.proofs.Listed.{calls_are_on_menu, fetch_faults_are_on_menu, load_faults_are_on_menu}
-use Rattle.pip_hostile.proofs.Listed.{masks_read_none, store_faults_are_on_menu, traps_are_on_menu, untaken_are_on_menu}
+use Rattle.pip_hostile.proofs.Listed.{masks_read_none, store_faults_are_on_menu, stores_are_on_menu, traps_are_on_menu}
+use Rattle.pip_hostile.proofs.Listed.{untaken_are_on_menu}
 use Rattle.pip_hostile.proofs.Listed.{yields_are_on_menu, yields_read_three}
 use Rattle.pip_hostile.proofs.law_menus.Goals as goal
 
@@ -14,4 +15,5 @@ returns c = record {
   yields = yields_read_three;
   masks = masks_read_none;
   saves = yields_are_on_menu;
+  words = stores_are_on_menu;
 }
