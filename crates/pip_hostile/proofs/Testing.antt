@@ -15,7 +15,7 @@ use Rattle.pip_hostile.specs.Passing as P
 use Rattle.pip_outside.specs.Sights.{IsSight, Sight}
 use Rattle.pip_outside.specs.Sights as S
 use Rattle.pip_outside.specs.Tests as T
-use Rattle.pip_outside.proofs.Testing.{all_read, both, confined, is_but, is_leaf_too, not_both, off, one, reads}
+use Rattle.pip_outside.proofs.Testing.{all_read, both, confined, is_but, has_none_too, not_both, off, one, reads}
 use Rattle.pip_model.specs.Acts.{events_made}
 use Rattle.pip_model.specs.Events as E
 use Rattle.pip_model.specs.Handlers.{is_reached}
@@ -74,7 +74,7 @@ module _ (own : List ℕ) (look : ℕ → ℕ → ℕ → ℕ) (s : Sight) (is :
 
   hostile_passes : hostile ≡ true → (S.event_passes own s w (E.Poll cpu)
       && ((not (H.is_vain (event w (E.Poll cpu)).outcome) || P.deeds_pass own s w cpu g.may)
-      && S.if_runs (runs_on w cpu) (S.is_leaf own w.tree))) ≡ true → P.HasPassed own look g w cpu
+      && S.if_runs (runs_on w cpu) (S.has_no_child own w.tree))) ≡ true → P.HasPassed own look g w cpu
   hostile_passes q e = by (runs_on w cpu) refl
     where
       by : (o : Option Occupant) → runs_on w cpu ≡ o → P.HasPassed own look g w cpu
@@ -83,7 +83,7 @@ module _ (own : List ℕ) (look : ℕ → ℕ → ℕ → ℕ) (s : Sight) (is :
       by (Some r) k =
           let a = both _ _ e in
           let b = both _ _ a.1 in
-          let c = confined own w cpu r sound k (subst (λ o. S.if_runs o (S.is_leaf own w.tree) ≡ true) k b.1) in
+          let c = confined own w cpu r sound k (subst (λ o. S.if_runs o (S.has_no_child own w.tree) ≡ true) k b.1) in
           record {
             away = record {
               turn = λ f. absurd (not_both _ f q);
@@ -145,4 +145,4 @@ tests_pass own blind g w cpu sound e =
         let a = both _ _ e in
         let b = both _ _ a.1 in
         all _ _ _ a.0 (ap (λ x. not (H.is_vain (event w (E.Poll cpu)).outcome) || x)
-        (deeds_same own blind w cpu g.may) ∙ b.0) (is_leaf_too own w.tree (runs_on w cpu) b.1)
+        (deeds_same own blind w cpu g.may) ∙ b.0) (has_none_too own w.tree (runs_on w cpu) b.1)

@@ -259,7 +259,8 @@ module _ (own : List ℕ) (look : ℕ → ℕ → ℕ → ℕ) (w : World) (cpu 
               ⊎ (GoesAway r.name (call (OnMemory m) w cpu r a).outcome
               ⊎ (((call_named number ≡ Yields)
               × SaveIsSeen look w.tree (with_zeros r.ctx) (yield_place w.tree r.name a.x2))
-              ⊎ ((call_named number ≡ OnMemory CreatePartition) × (first_met (create_refusals w.tree r.name a) ≡ None))))
+              ⊎ ((call_named number ≡ OnMemory CreatePartition)
+              × (first_met (create_refusals w.tree r.name a) ≡ None))))
           by (Some s) q m e = inl (stays m (λ x z. absurd (some s (sym q ∙ z))))
             where
               some : (s : Status) → Some s ≡ None → ⊥

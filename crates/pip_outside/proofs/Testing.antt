@@ -249,7 +249,7 @@ none_found f (x ∷ xs) e = let l = ltb-true (suc (length xs)) 1 e in absurd (om
 
 -- a hostile partition that runs is confined
 pub confined : (own : List ℕ) (w : World) (cpu : ℕ) (r : Occupant) → IsSoundWorld w → runs_on w cpu ≡ Some r
-    → S.is_leaf own w.tree r ≡ true → In r.name own × IsConfined w.tree r.name
+    → S.has_no_child own w.tree r ≡ true → In r.name own × IsConfined w.tree r.name
 confined own w cpu r s k e =
     let a = both _ _ e in
     let b = both _ _ a.1 in (
@@ -260,10 +260,11 @@ confined own w cpu r s k e =
     )
 
 -- one that has few pages, too
-pub is_leaf_too : (own : List ℕ) (t : Tree) (o : Option Occupant) → T.if_one_runs o (T.is_confined own t) ≡ true
-    → S.if_runs o (S.is_leaf own t) ≡ true
-is_leaf_too own t None e = refl
-is_leaf_too own t (Some r) e = by (has own r.name) (not (r.name == t.root.name)) (nat_lt (length (children t r.name)) 1) _ e
+pub has_none_too : (own : List ℕ) (t : Tree) (o : Option Occupant) → T.if_one_runs o (T.is_confined own t) ≡ true
+    → S.if_runs o (S.has_no_child own t) ≡ true
+has_none_too own t None e = refl
+has_none_too own t (Some r) e =
+    by (has own r.name) (not (r.name == t.root.name)) (nat_lt (length (children t r.name)) 1) _ e
   where
     by : (a b c d : Bool) → (a && (b && (c && d))) ≡ true → (a && (b && c)) ≡ true
     by true true true d e = refl

@@ -155,8 +155,8 @@ events_pass own s w (e ∷ es) =
     event_passes own s w e && events_pass own s (event w e).world es
 
 -- a partition that runs is one of these, no root, and has no children
-abbrev pub is_leaf : List ℕ → Tree → Occupant → Bool
-is_leaf own t r = has own r.name && (not (r.name == t.root.name) && nat_lt (length (children t r.name)) 1)
+abbrev pub has_no_child : List ℕ → Tree → Occupant → Bool
+has_no_child own t r = has own r.name && (not (r.name == t.root.name) && nat_lt (length (children t r.name)) 1)
 
 -- ---- what the tests say
 
