@@ -63,7 +63,7 @@ class LeftOut:
         """The deeds that are every exit of these partitions; yields to other vectors are refused."""
         stores = {(index, value) for (_, index), values in self.seen.items() for value in values}
         return [*(f"{who} trap {vector} 0 0" for vector in (*FAULTS, *TRAPS)),
-                *(f"{who} call 8 0 {vector} {NOWHERE}" for vector in yields), f"{who} call 10", f"{who} call 11",
+                *(f"{who} call 8 0 {vector} {NOWHERE}" for vector in yields),
                 *(f"{who} st {HANDLERS + 4 * index:#010x} {value:#010x}" for index, value in sorted(stores))]
 
     def menu(self) -> list[str]:

@@ -83,7 +83,7 @@ ProgramsAreNamed = (own : List ℕ) (look : ℕ → ℕ → ℕ → ℕ) (first 
     → AreNamedTurns ws own look w plans seed g.scope.cpus n t (text_of (steps w plans seed g.scope.cpus n t))
 
 -- where the partitions of the menu are confined, all that they do is free but for exits: accesses that fault, traps,
--- yields that enter another, and what changes what is seen of a word
+-- yields that enter another, what changes what is seen of a word, and a child that is created
 abbrev pub ConfinedProgramsAreNamed : Type 0
 ConfinedProgramsAreNamed = (own : List ℕ) (look : ℕ → ℕ → ℕ → ℕ) (first : Memory) (g : Menu) (m : Moment)
     (most limit count depth : ℕ)

@@ -104,7 +104,6 @@ module _ (own : List ℕ) (look : ℕ → ℕ → ℕ → ℕ) (g : Menu) (cpu :
     own_is = r.own_is;
     confined = subst (λ h. IsConfined h.world.tree r.runner.name) (sym is) (record {
       leaf = r.confined.leaf;
-      creates = r.confined.creates;
       other = r.confined.other;
       there = λ va h j z k. words h (h == g) (r.confined.there va h j z k);
     });

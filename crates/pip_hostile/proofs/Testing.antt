@@ -16,7 +16,7 @@ use Rattle.pip_hostile.specs.Passing as P
 use Rattle.pip_outside.specs.Sights.{IsSight, Sight}
 use Rattle.pip_outside.specs.Sights as S
 use Rattle.pip_outside.specs.Tests as T
-use Rattle.pip_outside.proofs.Testing.{all_read, both, confined, is_but, not_both, off, one, reads}
+use Rattle.pip_outside.proofs.Testing.{all_read, both, confined, is_but, has_none_too, not_both, off, one, reads}
 use Rattle.pip_model.specs.Acts.{events_made}
 use Rattle.pip_model.specs.Events as E
 use Rattle.pip_model.specs.Handlers.{is_reached}
@@ -75,7 +75,7 @@ module _ (own : List ℕ) (look : ℕ → ℕ → ℕ → ℕ) (s : Sight) (is :
 
   hostile_passes : hostile ≡ true → (S.event_passes own s w (E.Poll cpu)
       && ((not (H.is_vain (event w (E.Poll cpu)).outcome) || P.deeds_pass own s w cpu g.may)
-      && S.if_runs (runs_on w cpu) (T.is_confined own w.tree))) ≡ true → P.HasPassed own look g w cpu
+      && S.if_runs (runs_on w cpu) (S.has_no_child own w.tree))) ≡ true → P.HasPassed own look g w cpu
   hostile_passes q e = by (runs_on w cpu) refl
     where
       by : (o : Option Occupant) → runs_on w cpu ≡ o → P.HasPassed own look g w cpu
@@ -84,7 +84,7 @@ module _ (own : List ℕ) (look : ℕ → ℕ → ℕ → ℕ) (s : Sight) (is :
       by (Some r) k =
           let a = both _ _ e in
           let b = both _ _ a.1 in
-          let c = confined own w cpu r sound k (subst (λ o. S.if_runs o (T.is_confined own w.tree) ≡ true) k b.1) in
+          let c = confined own w cpu r sound k (subst (λ o. S.if_runs o (S.has_no_child own w.tree) ≡ true) k b.1) in
           record {
             away = record {
               turn = λ f. absurd (not_both _ f q);
@@ -131,8 +131,19 @@ deeds_same own blind w cpu (d ∷ ds) = ap (λ b. (not (is_its w.tree.root.name 
 pub tests_pass : TestsPass
 tests_pass own blind g w cpu sound e =
     let p = states_pass own (seen_but blind) (T.but blind) g w cpu (is_but own blind) sound
-    (ap (λ b. cond (is_hostile w.tree.root.name (name_on w cpu) g.may) (T.reads_outside own blind w (E.Poll cpu)
-    && ((not (H.is_vain (event w (E.Poll cpu)).outcome) || b)
-    && T.if_one_runs (runs_on w cpu) (T.is_confined own w.tree)))
-    (T.all_read_outside own blind w (events_made (turn w cpu 0)))) (deeds_same own blind w cpu g.may) ∙ e) in
+    (by (is_hostile w.tree.root.name (name_on w cpu) g.may) e) in
     record { away = p.away; confined = p.confined }
+  where
+    all : (a b c : Bool) → a ≡ true → b ≡ true → c ≡ true → (a && (b && c)) ≡ true
+    all a b c d e f = rw (d, e, f)
+
+    by : (b : Bool) → cond b (H.hostile_looks_away own blind g.may w cpu)
+        (T.all_read_outside own blind w (events_made (turn w cpu 0))) ≡ true
+        → cond b (P.hostile_passes own (T.but blind) g.may w cpu)
+        (S.events_pass own (T.but blind) w (events_made (turn w cpu 0))) ≡ true
+    by false e = e
+    by true e =
+        let a = both _ _ e in
+        let b = both _ _ a.1 in
+        all _ _ _ a.0 (ap (λ x. not (H.is_vain (event w (E.Poll cpu)).outcome) || x)
+        (deeds_same own blind w cpu g.may) ∙ b.0) (has_none_too own w.tree (runs_on w cpu) b.1)

@@ -11,8 +11,7 @@ use Rattle.pip_model.specs.Lists.{In}
 use Rattle.pip_model.specs.Turn.{turn}
 use Rattle.pip_model.specs.Worlds.{IsSoundWorld, World, runs_on}
 use Rattle.pip_outside.specs.Exits.{IsConfined}
-use Rattle.pip_outside.specs.Sights.{IsSight, Sight, events_pass, if_runs, event_passes}
-use Rattle.pip_outside.specs.Tests.{is_confined}
+use Rattle.pip_outside.specs.Sights.{IsSight, Sight, event_passes, events_pass, if_runs, has_no_child}
 
 -- no deed of what runs there reads what isn't seen, but for loads that are answered
 abbrev pub deeds_pass : List ℕ → Sight → World → ℕ → List May → Bool
@@ -24,7 +23,7 @@ deeds_pass own s w cpu (d ∷ ds) = (not (is_its w.tree.root.name (name_on w cpu
 abbrev pub hostile_passes : List ℕ → Sight → List May → World → ℕ → Bool
 hostile_passes own s ds w cpu = event_passes own s w (E.Poll cpu)
     && ((not (is_vain (event w (E.Poll cpu)).outcome) || deeds_pass own s w cpu ds)
-    && if_runs (runs_on w cpu) (is_confined own w.tree))
+    && if_runs (runs_on w cpu) (has_no_child own w.tree))
 
 -- the test of a state and a processor
 abbrev pub passes : List ℕ → Sight → Menu → World → ℕ → Bool

@@ -48,7 +48,7 @@ use Rattle.pip_outside.specs.Unseen.{Answers, ByOneOf, GoesTo, IsUnseen, StaysTh
 use Rattle.pip_model.proofs.Events.Soundness.{reached_words}
 use Rattle.pip_outside.proofs.Alikes.{tree_alike_same}
 use Rattle.pip_outside.proofs.Seen.{landed_word}
-use Rattle.pip_outside.proofs.Masks.{child_bare, create_refused, masked_alike, reach_bare}
+use Rattle.pip_outside.proofs.Masks.{child_bare, masked_alike, reach_bare}
 
 -- ---- calls on memory
 
@@ -79,37 +79,38 @@ module _ (w : World) (p : ℕ) (c : IsConfined w.tree p) where
       ≢ None)
       (sym (c.leaf d)) (third x y S.NotAligned S.NullPage xs S.NotChild)
 
-  keeps : (a : Five) (k : MemoryCall) → (answer k w p a).tree ≡ w.tree
-  keeps a CreatePartition =
-      refused w.tree (first_met (create_refusals w.tree p a)) (c.creates a) (accept 0 (tree_with_newborn w.tree p a))
-  keeps a DeletePartition = refused w.tree (first_met (delete_refusals w.tree (running w) p a.x0))
+  keeps : (a : Five) (k : MemoryCall) → (k ≡ CreatePartition → first_met (create_refusals w.tree p a) ≢ None)
+      → (answer k w p a).tree ≡ w.tree
+  keeps a CreatePartition n =
+      refused w.tree (first_met (create_refusals w.tree p a)) (n refl) (accept 0 (tree_with_newborn w.tree p a))
+  keeps a DeletePartition n = refused w.tree (first_met (delete_refusals w.tree (running w) p a.x0))
       (childless a.x0 _ _
       ((some_run (running w) (below w.tree (child_name w.tree p a.x0)), S.Running) ∷ []))
       (accept 0 (tree_without_subtree w.tree (child_name w.tree p a.x0)))
-  keeps a CountToMap = unless_same w.tree (first_met (count_refusals w.tree p a.x0 a.x1))
+  keeps a CountToMap n = unless_same w.tree (first_met (count_refusals w.tree p a.x0 a.x1))
       (accept (pages_needed (child_of w.tree p a.x0) (vpage a.x1)) w.tree) refl
-  keeps a Prepare =
+  keeps a Prepare n =
       let k = pages_needed (child_of w.tree p a.x0) (vpage a.x1) in
       refused w.tree (first_met (count_refusals w.tree p a.x0 a.x1)) (childless a.x0 _ _ [])
       (prepare_with w.tree (child_name w.tree p a.x0) (vpage a.x1) k (page_chain w.tree p k [] a.x2))
-  keeps a Collect =
+  keeps a Collect n =
       let x = child_of w.tree p a.x0 in
       let gs = returned_pages x (table_for x (vpage a.x1)) in
       refused w.tree (first_met (collect_refusals w.tree p a.x0 a.x1)) (childless a.x0 _ _
       ((is_none (table_for x (vpage a.x1)), S.NoTable) ∷ (has_row_in x (dir (vpage a.x1)), S.NotEmpty) ∷ []))
       (accept (first_va gs) (tree_without_table w.tree (child_name w.tree p a.x0) (dir (vpage a.x1)) gs))
-  keeps a AddVAddr = refused w.tree (first_met (add_refusals w.tree p a.x0 a.x1 a.x2 a.x3)) (childless a.x1 _ _
+  keeps a AddVAddr n = refused w.tree (first_met (add_refusals w.tree p a.x0 a.x1 a.x2 a.x3)) (childless a.x1 _ _
       ((not (is_mapped w.tree p (vpage a.x0)), S.NotMapped) ∷ (not (free w.tree p (vpage a.x0)), S.NotFree)
       ∷ (exceeds a.x3 (rights_at w.tree p (vpage a.x0)), S.NoRight)
       ∷ (not (has_table (child_of w.tree p a.x1) (vpage a.x2)), S.NoTable)
       ∷ (is_some (row_at (child_of w.tree p a.x1).rows (vpage a.x2)), S.Taken) ∷ []))
       (accept 0 (tree_with_row w.tree (child_name w.tree p a.x1)
       (record { at = vpage a.x2; frame = page_of w.tree p a.x0; rights = a.x3 })))
-  keeps a RemoveVAddr = refused w.tree (first_met (remove_refusals w.tree p a.x0 a.x1)) (childless a.x0 _ _
+  keeps a RemoveVAddr n = refused w.tree (first_met (remove_refusals w.tree p a.x0 a.x1)) (childless a.x0 _ _
       ((is_none (row_at (child_of w.tree p a.x0).rows (vpage a.x1)), S.Absent)
       ∷ (not (free w.tree (child_name w.tree p a.x0) (vpage a.x1)), S.LentOn) ∷ []))
       (accept 0 (tree_without_row w.tree (child_name w.tree p a.x0) (vpage a.x1)))
-  keeps a MappedInChild = unless_same w.tree (first_met (find_refusals w.tree p a.x0))
+  keeps a MappedInChild n = unless_same w.tree (first_met (find_refusals w.tree p a.x0))
       (accept (holder_born (holder w.tree p (page_of w.tree p a.x0))) w.tree) refl
 
 -- ---- yields
@@ -196,11 +197,12 @@ module _ (own : List ℕ) (look : ℕ → ℕ → ℕ → ℕ) (w : World) (cpu 
           subst (λ h. AlikeTrees look h.world.tree w.tree) (sym f) m.1,
         )
         | inr (inl m) ↦ inr (inl (subst (λ h. GoesAway r.name h.outcome) (sym f) m))
-        | inr (inr m) ↦ inr (inr (
+        | inr (inr (inl m)) ↦ inr (inr (inl (
           m.0,
           subst (λ o. SaveIsSeen look w.tree (with_zeros (ctx_of o))
               (yield_place w.tree r.name a.x2)) (sym k) m.1,
-        ))
+        )))
+        | inr (inr (inr m)) ↦ inr (inr (inr m))
       ]
     where
       -- all words of a block look as they did, or one doesn't
@@ -242,12 +244,39 @@ module _ (own : List ℕ) (look : ℕ → ℕ → ℕ → ℕ) (w : World) (cpu 
       go : (c : CallName) → call_named number ≡ c
           → (StaysThere (call c w cpu r a).outcome × AlikeTrees look (call c w cpu r a).world.tree w.tree)
           ⊎ (GoesAway r.name (call c w cpu r a).outcome
-          ⊎ ((call_named number ≡ Yields) × SaveIsSeen look w.tree (with_zeros r.ctx) (yield_place w.tree r.name a.x2)))
-      go (OnMemory m) e = inl (tt, same_trees look w.tree (answer m w r.name a).tree (keeps w r.name c a m))
+          ⊎ (((call_named number ≡ Yields) × SaveIsSeen look w.tree (with_zeros r.ctx) (yield_place w.tree r.name a.x2))
+          ⊎ ((call_named number ≡ OnMemory CreatePartition) × (first_met (create_refusals w.tree r.name a) ≡ None))))
+      go (OnMemory m) e = by (first_met (create_refusals w.tree r.name a)) refl m e
+        where
+          stays : (m : MemoryCall) → (m ≡ CreatePartition → first_met (create_refusals w.tree r.name a) ≢ None)
+              → StaysThere (call (OnMemory m) w cpu r a).outcome
+              × AlikeTrees look (call (OnMemory m) w cpu r a).world.tree w.tree
+          stays m n = (tt, same_trees look w.tree (answer m w r.name a).tree (keeps w r.name c a m n))
+
+          by : (o : Option Status) → first_met (create_refusals w.tree r.name a) ≡ o → (m : MemoryCall)
+              → call_named number ≡ OnMemory m → (StaysThere (call (OnMemory m) w cpu r a).outcome
+              × AlikeTrees look (call (OnMemory m) w cpu r a).world.tree w.tree)
+              ⊎ (GoesAway r.name (call (OnMemory m) w cpu r a).outcome
+              ⊎ (((call_named number ≡ Yields)
+              × SaveIsSeen look w.tree (with_zeros r.ctx) (yield_place w.tree r.name a.x2))
+              ⊎ ((call_named number ≡ OnMemory CreatePartition)
+              × (first_met (create_refusals w.tree r.name a) ≡ None))))
+          by (Some s) q m e = inl (stays m (λ x z. absurd (some s (sym q ∙ z))))
+            where
+              some : (s : Status) → Some s ≡ None → ⊥
+              some s z = cc
+          by None q CreatePartition e = inr (inr (inr (e, q)))
+          by None q DeletePartition e = inl (stays DeletePartition (λ x. cc))
+          by None q CountToMap e = inl (stays CountToMap (λ x. cc))
+          by None q Prepare e = inl (stays Prepare (λ x. cc))
+          by None q Collect e = inl (stays Collect (λ x. cc))
+          by None q AddVAddr e = inl (stays AddVAddr (λ x. cc))
+          by None q RemoveVAddr e = inl (stays RemoveVAddr (λ x. cc))
+          by None q MappedInChild e = inl (stays MappedInChild (λ x. cc))
       go Yields e = elim (yields (target_node w.tree r.name a.x0)) [
         | inl m ↦ inl m
         | inr (inl m) ↦ inr (inl m)
-        | inr (inr m) ↦ inr (inr (e, m))
+        | inr (inr m) ↦ inr (inr (inl (e, m)))
       ]
       go (Masks b) e = inl (tt, masked_alike look r.name b w.tree c.other)
       go Unknown e = inl (tt, tree_alike_same look w.tree)
@@ -315,7 +344,6 @@ masks_are_unseen own look w cpu number a r b k i n e =
 pub confined_alike : ConfinedAlike
 confined_alike look t u p a c = of_bare u p (subst (λ x. IsConfined x p) a.nodes (record {
   leaf = λ d. rw (child_bare t p d, c.leaf d);
-  creates = λ x. subst (λ o. o ≢ None) (sym (create_refused t p x)) (c.creates x);
   other = c.other;
   there = λ va g i z e. sym (a.words g).there ∙ c.there va g i z (sym (reach_bare t p va Store z) ∙ e);
 }))
@@ -327,15 +355,13 @@ confined_alike look t u p a c = of_bare u p (subst (λ x. IsConfined x p) a.node
     of_bare : (u : Tree) (p : ℕ) → IsConfined (one_mask u) p → IsConfined u p
     of_bare u p c = record {
       leaf = λ d. none (child_at u p d) (sym (child_bare u p d) ∙ c.leaf d);
-      creates = λ x. subst (λ o. o ≢ None) (create_refused u p x) (c.creates x);
       other = c.other;
       there = λ va g i z e. c.there va g i z (reach_bare u p va Store z ∙ e);
     }
 
 pub sound_confines : SoundConfines
-sound_confines t p s n other leaf creates = record {
+sound_confines t p s n other leaf = record {
   leaf = leaf;
-  creates = creates;
   other = other;
   there = λ va g i z e. reached_words t p va g i Store z s n e;
 }

@@ -258,7 +258,7 @@ module _ (t : Tree) where
       by x true = s x
       by x false = refl
 
-  pub create_refused : (p : ℕ) (a : Five) → first_met (create_refusals (one_mask t) p a)
+  create_refused : (p : ℕ) (a : Five) → first_met (create_refusals (one_mask t) p a)
       ≡ first_met (create_refusals t p a)
   create_refused p a = cc (
     rows_bare p,

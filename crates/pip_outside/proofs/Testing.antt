@@ -33,14 +33,13 @@ use Rattle.pip_model.specs.declared.call_name.MemoryCall.TheVariants.{RemoveVAdd
 use Rattle.pip_model.specs.declared.processors.Occupant.{Occupant}
 use Rattle.pip_model.proofs.Events.Soundness.{runs_named}
 use Rattle.pip_model.proofs.OnLists.Members.{has_in, in_has}
-use Rattle.pip_outside.specs.Exits.{IsConfined, writable_rows}
+use Rattle.pip_outside.specs.Exits.{IsConfined}
 use Rattle.pip_outside.specs.Outside.{AboveMiss, BlockMisses, ByRunner, CallMisses, ChainMisses, DeliveryMisses}
 use Rattle.pip_outside.specs.Outside.{HandlerMisses, HandlersMiss, Lands, LinesMiss, LoadMisses, MemoryMisses}
 use Rattle.pip_outside.specs.Outside.{ReadsOutside, RunnerSaved, SaveMisses, StoreMisses}
 use Rattle.pip_outside.specs.Outside.{entry_place, block_place}
 use Rattle.pip_outside.specs.Turns.{AllReadOutside}
 use Rattle.pip_outside.proofs.Confined.{sound_confines}
-use Rattle.pip_outside.proofs.Few.{few_pages_create_none}
 
 -- ---- tests
 
@@ -250,14 +249,25 @@ none_found f (x ∷ xs) e = let l = ltb-true (suc (length xs)) 1 e in absurd (om
 
 -- a hostile partition that runs is confined
 pub confined : (own : List ℕ) (w : World) (cpu : ℕ) (r : Occupant) → IsSoundWorld w → runs_on w cpu ≡ Some r
-    → T.is_confined own w.tree r ≡ true → In r.name own × IsConfined w.tree r.name
+    → S.has_no_child own w.tree r ≡ true → In r.name own × IsConfined w.tree r.name
 confined own w cpu r s k e =
     let a = both _ _ e in
-    let b = both _ _ a.1 in
-    let c = both _ _ b.1 in (
+    let b = both _ _ a.1 in (
       has_in r.name own a.0,
       sound_confines w.tree r.name s.tree (s.names_nodes r.name (runs_named w cpu r s k))
           (λ q. not_both _ (off _ b.0) (eq-eqb r.name w.tree.root.name q))
-          (λ d. none_found (λ x. x.born == d) (children w.tree r.name) c.0)
-          (few_pages_create_none w.tree r.name (ltb-true (length (writable_rows w.tree r.name)) 5 c.1)),
+          (λ d. none_found (λ x. x.born == d) (children w.tree r.name) b.1),
     )
+
+-- one that has few pages, too
+pub has_none_too : (own : List ℕ) (t : Tree) (o : Option Occupant) → T.if_one_runs o (T.is_confined own t) ≡ true
+    → S.if_runs o (S.has_no_child own t) ≡ true
+has_none_too own t None e = refl
+has_none_too own t (Some r) e =
+    by (has own r.name) (not (r.name == t.root.name)) (nat_lt (length (children t r.name)) 1) _ e
+  where
+    by : (a b c d : Bool) → (a && (b && (c && d))) ≡ true → (a && (b && c)) ≡ true
+    by true true true d e = refl
+    by true true false d e = cc
+    by true false c d e = cc
+    by false b c d e = cc

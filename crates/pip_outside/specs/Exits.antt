@@ -22,7 +22,8 @@ use Rattle.pip_model.specs.Sound.{IsSound}
 use Rattle.pip_model.specs.Switching.{with_zeros, yield_place}
 use Rattle.pip_model.specs.Tree.{Row, Tree, child_at, names_of, node, nodes, word_of}
 use Rattle.pip_model.specs.Worlds.{World, ctx_on, runs_on}
-use Rattle.pip_model.specs.declared.call_name.CallName.TheVariants.{Masks, Yields}
+use Rattle.pip_model.specs.declared.call_name.CallName.TheVariants.{Masks, OnMemory, Yields}
+use Rattle.pip_model.specs.declared.call_name.MemoryCall.TheVariants.{CreatePartition}
 use Rattle.pip_model.specs.declared.processors.Occupant.{Occupant}
 use Rattle.pip_outside.specs.Outside.{AlikeTrees}
 use Rattle.pip_outside.specs.Unseen.{IsUnseen}
@@ -69,11 +70,9 @@ MasksAreUnseen = (own : List ℕ) (look : ℕ → ℕ → ℕ → ℕ) (w : Worl
 
 -- ---- partitions that can't do more
 
--- a partition, not the root, without children, to which createPartition is always refused. (The last is so in each
--- sound tree: what a partition reaches has words)
+-- a partition, not the root, without children. (The last is so in each sound tree: what a partition reaches has words)
 pub record IsConfined (t : Tree) (p : ℕ) : Type 0 where
   pub leaf : (d : ℕ) → child_at t p d ≡ None
-  pub creates : (a : Five) → first_met (create_refusals t p a) ≢ None
   pub other : p ≢ t.root.name
   pub there : (va g i : ℕ) (z : Size) → reach t p va Store z ≡ Place g i → is_some (t.words g) ≡ true
 
@@ -103,15 +102,16 @@ SaveIsSeen look t c (Place g i) = (j : ℕ) × (i ≤ j) × (j < i + 17)
     × (look g j (context_word c (j - i)) ≢ look g j (word_of (t.words g) j))
 SaveIsSeen look t c (Faulted f) = ⊥
 
--- p makes an access that faults, a store that changes what is seen of a word, a trap, or a yield that enters another or
--- saves so
+-- p makes an access that faults, a store that changes what is seen of a word, a trap, a yield that enters another or
+-- saves so, or a child
 abbrev pub IsExit : (ℕ → ℕ → ℕ → ℕ) → World → ℕ → Event → Type 0
 IsExit look w p (E.Load cpu va z) = Faults (reach w.tree p va Load z)
 IsExit look w p (E.Store cpu va z x) = IsSeen look w.tree va z x (reach w.tree p va Store z)
 IsExit look w p (E.Fetch cpu) = Faults (reach w.tree p (ctx_on w cpu).pc Fetch Word)
 IsExit look w p (E.Trap cpu k a b) = Unit {0}
 IsExit look w p (E.Call cpu number a) = GoesAway p (event w (E.Call cpu number a)).outcome
-    ⊎ ((call_named number ≡ Yields) × SaveIsSeen look w.tree (with_zeros (ctx_on w cpu)) (yield_place w.tree p a.x2))
+    ⊎ (((call_named number ≡ Yields) × SaveIsSeen look w.tree (with_zeros (ctx_on w cpu)) (yield_place w.tree p a.x2))
+    ⊎ ((call_named number ≡ OnMemory CreatePartition) × (first_met (create_refusals w.tree p a) ≡ None)))
 IsExit look w p (E.Raise j) = ⊥
 IsExit look w p (E.Poll cpu) = ⊥
 IsExit look w p (E.SetContext cpu c) = ⊥
@@ -138,10 +138,10 @@ abbrev pub ConfinedAlike : Type 0
 ConfinedAlike =
     (look : ℕ → ℕ → ℕ → ℕ) (t u : Tree) (p : ℕ) → AlikeTrees look t u → IsConfined t p → IsConfined u p
 
--- in a sound tree: a partition of the tree, not the root, without children, to which createPartition is refused
+-- in a sound tree: a partition of the tree, not the root, without children
 abbrev pub SoundConfines : Type 0
 SoundConfines = (t : Tree) (p : ℕ) → IsSound t → In p (names_of (nodes t)) → p ≢ t.root.name
-    → ((d : ℕ) → child_at t p d ≡ None) → ((a : Five) → first_met (create_refusals t p a) ≢ None) → IsConfined t p
+    → ((d : ℕ) → child_at t p d ≡ None) → IsConfined t p
 
 -- the rows of p's pages that it may read and write
 abbrev pub writable_rows : Tree → ℕ → List Row

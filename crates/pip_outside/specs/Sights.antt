@@ -1,6 +1,6 @@
 -- A test of an event, by which a search can say that nothing outside reads what isn't seen of words.
 use Rattle.std.specs.Prelude.{◌≡◌, ℕ, zero, suc, ◌+◌, ◌&&◌, ◌||◌, nat_lt, not, Bool, true, List, [], ◌∷◌}
-use Rattle.std.specs.Prelude.{Option, Some, None}
+use Rattle.std.specs.Prelude.{◌==◌, Option, Some, None, length}
 use Rattle.pip_base.specs.declared.types.Access.TheVariants.{Load, Store, Fetch}
 use Rattle.pip_base.specs.declared.types.Size.{Size}
 use Rattle.pip_base.specs.declared.types.Size.TheVariants.{Word}
@@ -13,7 +13,7 @@ use Rattle.pip_model.specs.Lists.{has}
 use Rattle.pip_model.specs.Prepare.{next_in_chain}
 use Rattle.pip_model.specs.Reach.{Faulted, Place, Reached, reach}
 use Rattle.pip_model.specs.Switching.{target_node}
-use Rattle.pip_model.specs.Tree.{Node, Tree, chain}
+use Rattle.pip_model.specs.Tree.{Node, Tree, chain, children}
 use Rattle.pip_model.specs.Worlds.{World, running, runs_on}
 use Rattle.pip_model.specs.declared.call_name.CallName.{CallName}
 use Rattle.pip_model.specs.declared.call_name.CallName.TheVariants.{Masks, OnMemory, Unknown, Yields}
@@ -153,6 +153,10 @@ abbrev pub events_pass : List ℕ → Sight → World → List Event → Bool
 events_pass own s w [] = true
 events_pass own s w (e ∷ es) =
     event_passes own s w e && events_pass own s (event w e).world es
+
+-- a partition that runs is one of these, no root, and has no children
+abbrev pub has_no_child : List ℕ → Tree → Occupant → Bool
+has_no_child own t r = has own r.name && (not (r.name == t.root.name) && nat_lt (length (children t r.name)) 1)
 
 -- ---- what the tests say
 
