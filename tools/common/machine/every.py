@@ -85,13 +85,6 @@ def label_of(told: list[str]) -> Label | None:
     return int(cpu), text
 
 
-# Ways in words
-
-
-def way_text(moments: Moments, way: list[int]) -> str:
-    return grouped(map(moments.choice_text, way))
-
-
 def grouped(choices: Iterable[str]) -> str:
     """Choices that are the same in a row as one, with their number."""
     runs = ((name, len(list(same))) for name, same in itertools.groupby(choices))
