@@ -190,11 +190,6 @@ class Document:
     def contents(self, path: str) -> str:
         return (self.top / path).read_text(encoding="utf-8")
 
-    def running(self) -> Iterator[tuple[Block, Runs]]:
-        for at, block in enumerate(self.blocks):
-            if runs := self.runs(at):
-                yield block, runs
-
     def runs(self, at: int) -> Runs | None:
         block = self.blocks[at]
         lines = block.text.split("\n")[:-1]

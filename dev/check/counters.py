@@ -34,15 +34,16 @@ HARMLESS = re.compile(r"""
     | \benum\s+\w+(?:<[^>{]*>)?\s*\{\s*Blank\b | \b(?:ScriptLine|Statement)::Blank\b(?!\s*::) | \bSome\s+Blank\b
     """, re.VERBOSE)
 
-# The lines of pip_base that define the counter, those of pip_journal that let a caller pick the words of a memory and
-# that copy them, and those of the search.
-DEFINITION = {path: [escaped(line).decode() for line in text.splitlines()]
-              for path, text in blocks("data/counting.txt", __file__).items()}
+# The planted ways to make a counter, and the lines of pip_base that define it, those of pip_journal that let a caller
+# pick the words of a memory and that copy them, and those of the search.
+PLANTED = blocks("data/counters.txt", __file__)
+DEFINITION = {path: [escaped(line).decode() for line in PLANTED.pop(path).splitlines()]
+              for path in list(PLANTED) if path.startswith("crates/")}
 
 
 def step_counters(program: str) -> None:
     """No crate below the commands names what a counter is made of. Planted ways to make one are tried first."""
-    for title, text in blocks("data/counters.txt", __file__).items():
+    for title, text in PLANTED.items():
         files = parted(text) if text.startswith("crates/") else {KERNEL: f"fn leaf() {{ {text} }}\n"}
         if bool(found_in(files)) == title.startswith("no "):
             raise Differs(f"a planted counter is found, or isn't, where it is the other way round: {title}")

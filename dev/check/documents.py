@@ -1,7 +1,10 @@
 """Each block of the documents is told, and what runs of them gives what it shows; docs/TUTORIAL.md shows the files of
 examples/tutorial/ as they are."""
 
+from __future__ import annotations
+
 import contextlib
+import itertools
 import os
 import re
 import sys
@@ -53,16 +56,25 @@ def blocks_that_run(program: str) -> None:
     with tempfile.TemporaryDirectory() as place:
         programs = both_programs(program, place)
         for path, document in documents():
-            for block, runs in document.running():
+            for at, block in enumerate(document.blocks):
+                runs = runs_of(document, at)
                 what = f"{path}, the block from line {block.line} on"
                 if isinstance(runs, runnable.Script):
                     script_shows(what, runs, program)
                 elif isinstance(runs, runnable.Session) and not block.source:
                     for by, pair in programs.items():
                         session_shows(what + by, runs, pair)
-                count += 1
+                count += runs is not None
     if count < LEAST:
         raise Differs(f"the documents have only {count} blocks that run")
+
+
+def runs_of(document: runnable.Document, at: int) -> runnable.Runs | None:
+    """What runs of a block, which is a part of the file that it names."""
+    try:
+        return document.runs(at)
+    except runnable.Wrong as wrong:
+        raise Differs(f"{document.path}: {wrong}") from None
 
 
 def script_shows(what: str, runs: runnable.Script, program: str) -> None:
@@ -127,9 +139,8 @@ def by_reference(script: str, place: str) -> str:
 
 FOLDER = "examples/tutorial/"
 
-# A block with the link above it that names its file; 'From' says that it is a part of the file, whose lines follow one
-# another there.
-BLOCK = re.compile(r"^(From )?\[([^\]\n]+)\]\(\.\./(examples/[^)\n]+)\):\n\n```\n(.*?)^```$", re.M | re.S)
+# What names the file of a block
+TITLE = re.compile(r"^(?:From )?\[([^\]\n]+)\]\((\.\./examples/[^)\n]+)\):$", re.M)
 
 
 def tutorial_sessions(program: str) -> None:
@@ -154,40 +165,33 @@ def commands_give(name: str, programs: dict[str, str], by: str) -> None:
 
 
 def tutorial_blocks(program: str) -> None:
-    """Each block of the tutorial is the file that it names, or a part of it, and all files are shown or linked."""
-    tutorial = text_of("docs/TUTORIAL.md")
-    found = BLOCK.findall(tutorial)
-    if 2 * len(found) != len(re.findall("^```", tutorial, re.M)):
+    """Each block of the tutorial is the file that it names, or after 'From' a part of it, with all answers, and all
+    files are shown or linked."""
+    document = runnable.Document(Path(REPOSITORY), "docs/TUTORIAL.md")
+    shown = [at for at, block in enumerate(document.blocks) if block.source]
+    named = TITLE.findall(document.text)
+    if not len(shown) == len(named) == len(re.findall("^```", document.text, re.M)) // 2:
         raise Differs("docs/TUTORIAL.md: a block doesn't name its file in the line above")
-    for part, title, name, shown in found:
-        if title != os.path.basename(name):
-            raise Differs(f"docs/TUTORIAL.md: the link '{title}' leads to {name}")
-        due = with_answers(name)
-        block = in_file(name, shown)
-        if block != due if not part else not any(due[k:k + len(block)] == block for k in range(len(due))):
-            raise Differs(f"docs/TUTORIAL.md, the block of {name}, is {'no part of' if part else 'not'} the file with "
-                          "its answers")
-    linked = {f"{FOLDER}{name}" for name in re.findall(rf"\]\(\.\./{FOLDER}([^)]+)\)", tutorial)}
+    if wrong := [title for title, name in named if title != os.path.basename(name)]:
+        raise Differs(f"docs/TUTORIAL.md: the link '{wrong[0]}' leads to another file")
+    for at in shown:
+        is_whole(document.blocks[at], runs_of(document, at))
+    linked = {f"{FOLDER}{name}" for name in re.findall(rf"\]\(\.\./{FOLDER}([^)]+)\)", document.text)}
     left_out = sorted({*files(".pip"), *files(".s"), *files(".session")} - linked)
     if left_out:
         raise Differs(f"docs/TUTORIAL.md doesn't show or link {', '.join(left_out)}")
 
 
-def in_file(name: str, shown: str) -> list[tuple[str, str]]:
-    """The lines of a block, each with the answer after its arrow in a script."""
-    if not name.endswith(".pip"):
-        return [(line, "") for line in shown.splitlines()]
-    lines = [line.partition(" → ") for line in shown.splitlines()]
-    return [(told.rstrip(" ") if arrow else told, answer) for told, arrow, answer in lines]
-
-
-def with_answers(name: str) -> list[tuple[str, str]]:
-    """The lines of a file, each with its answer in a script."""
-    lines = text_of(name).splitlines()
-    if not name.endswith(".pip"):
-        return [(line, "") for line in lines]
-    told = iter(text_of(name[:-len("pip")] + "out").splitlines())
-    return [(line, "" if not line or line.startswith("#") else next(told, "")) for line in lines]
+def is_whole(block: runnable.Block, runs: runnable.Runs | None) -> None:
+    """Whether a block that isn't a part shows its file, and each line of a script its answer."""
+    source = str(block.source)
+    lines = runs.lines if isinstance(runs, runnable.Script) else [(line, "") for line in block.text.splitlines()]
+    if not block.is_part and [line for line, _ in lines] != text_of(source).splitlines():
+        raise Differs(f"docs/TUTORIAL.md, the block of {source}, isn't the file")
+    events = [answer for line, answer in lines if line and not line.startswith("#")]
+    good = itertools.takewhile(lambda answer: not str(answer).startswith("bad line"), events)
+    if None in good:
+        raise Differs(f"docs/TUTORIAL.md, the block of {source}, lacks an answer")
 
 
 def files(ending: str) -> list[str]:

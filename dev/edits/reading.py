@@ -4,15 +4,15 @@ file in dev/edits/tried/."""
 from __future__ import annotations
 
 import os
-import re
 from collections.abc import Iterator
 from dataclasses import dataclass
 from pathlib import Path
 
+from common.blocks import parted
+
 # The kinds of edits: those of the gate, those that the check drawn-edits tries always, now and then, and never
 GATE, ALWAYS, TRIED, ADMITTED = "must-fail", "always", "tried", "admitted"
 KEPT = os.path.join("dev", "edits", "tried")
-BLOCK = re.compile(r"^([^ #\n].*)\n((?:(?: .*)?\n)*)", re.M)
 
 
 class NotApplied(Exception):
@@ -61,10 +61,9 @@ def read_changes(text: str) -> tuple[Change, ...]:
 def kept_edits(crate: str, text: str) -> Iterator[Edit]:
     """The edits of a crate's file: a block each, whose title is `NAME`, `NAME: always` where each commit tries it, or
     `NAME: admitted` where the contracts admit it."""
-    for title, lines in BLOCK.findall(text):
+    for title, lines in parted(text).items():
         name, _, mark = title.partition(": ")
-        body = re.sub("^    ", "", lines, flags=re.M)
-        yield Edit(crate, mark if mark in (ALWAYS, ADMITTED) else TRIED, name, read_changes(body))
+        yield Edit(crate, mark if mark in (ALWAYS, ADMITTED) else TRIED, name, read_changes(lines))
 
 
 def edits_of(top: str, crate: str) -> Iterator[Edit]:

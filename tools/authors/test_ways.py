@@ -41,7 +41,7 @@ class Ways(unittest.TestCase):
             at, label = moments.start, None
             for choice in choices:
                 at, label = moments.after(at, choice)
-            way = ways.read(image, searches.way_text(moments, choices))
+            way = ways.read(image, searches.grouped(map(moments.choice_text, choices)))
             due = [f"{len(way) - 1} {label[0]} {label[1]}"] if label else []
             self.assertEqual(list(ways.made(image, way))[-1].lines, due)
             self.is_script(image, way)

@@ -329,7 +329,7 @@ class Adapter:
         chain = ancestors(self.on.partitions(), at.part if at else 1)
         stops = self.on.told_stops()
         if len(chain) > 1:
-            stops.add("break", 0, f"part {chain[1].name}")
+            stops.append(f"break 0 part {chain[1].name}")
         return self.moving(lambda: self.on.run(stops))
 
     def on_step_back(self, given: Arguments) -> Any:

@@ -6,7 +6,7 @@ import json
 import subprocess
 import tempfile
 from collections.abc import Iterator, Sequence
-from dataclasses import dataclass, field
+from dataclasses import dataclass
 from typing import Any, NamedTuple
 
 from common.calling import Failed, running
@@ -73,16 +73,6 @@ class Stopped:
     edited: bool
 
 
-@dataclass
-class Stops:
-    """What stops a run, in the words of the process."""
-
-    told: list[str] = field(default_factory=list)
-
-    def add(self, *words: object) -> None:
-        self.told.append(" ".join(map(str, words)))
-
-
 class States:
     """A run that goes forward and back."""
 
@@ -121,14 +111,14 @@ class States:
                            answer["edited"])
         return self.now
 
-    def set_stops(self, stops: Stops) -> None:
+    def set_stops(self, stops: list[str]) -> None:
         """Those that hold from now on; the process keeps them."""
-        if stops.told != self.stops:
+        if stops != self.stops:
             self.ask("clear")
             self.stops = []
-            for one in stops.told:
+            for one in stops:
                 self.ask(one)
-            self.stops = list(stops.told)
+            self.stops = list(stops)
 
     # What is asked
 
@@ -141,11 +131,11 @@ class States:
     def go(self, step: int) -> Stopped:
         return self.moved(self.ask("go", step))
 
-    def run(self, to: int, stops: Stops) -> Stopped:
+    def run(self, to: int, stops: list[str]) -> Stopped:
         self.set_stops(stops)
         return self.moved(self.ask("run", to))
 
-    def back(self, to: int, stops: Stops) -> Stopped:
+    def back(self, to: int, stops: list[str]) -> Stopped:
         self.set_stops(stops)
         return self.moved(self.ask("back", to))
 
@@ -202,14 +192,13 @@ def turn_of(told: dict[str, Any]) -> Turn:
 
 def first_turn_at(process: str, image: bytes, word: tuple[int, int], seed: int) -> int:
     """How many steps of a run come before the first turn at a word of a frame."""
-    states, stops = States(process), Stops()
+    states = States(process)
     try:
         with tempfile.NamedTemporaryFile(suffix=".img") as file:
             file.write(image)
             file.flush()
             states.load(file.name, f"seed {seed}")
-        stops.add("break", 1, f"place {word[0]}:{word[1]}")
-        now = states.run(states.now.end, stops)
+        now = states.run(states.now.end, [f"break 1 place {word[0]}:{word[1]}"])
         if not now.stops:
             raise Failed(f"it doesn't run in {now.step} steps by the seed {seed}")
         return now.step

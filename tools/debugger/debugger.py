@@ -17,7 +17,7 @@ from common.draw.texts import Partition
 from common.machine import image as images, instructions, script
 from common.machine.every import AT_FIRST, After
 from . import searching, sources
-from .client import EVERY, At, Coming, Refused, States, Stopped, Stops, Turn
+from .client import EVERY, At, Coming, Refused, States, Stopped, Turn
 from .sources import Named, Word
 
 CHUNK = 1_000_000                # steps of a run between two looks at whether it shall pause
@@ -264,22 +264,17 @@ class Debugger:
             part = f"word {frame}:{index} {min(count, 1024 - index)}"
         return self.add(text, "watch", [part], None, after)
 
-    def told_stops(self) -> Stops:
-        told = Stops()
-        told.add("idle")
-        for stop in self.stops.values():
-            for part in stop.parts:
-                told.add(stop.kind, stop.number, part)
-        return told
+    def told_stops(self) -> list[str]:
+        return ["idle", *(f"{stop.kind} {stop.number} {part}" for stop in self.stops.values() for part in stop.parts)]
 
     # Moves
 
-    def run(self, stops: Stops, to: int | None = None) -> Stopped:
+    def run(self, stops: list[str], to: int | None = None) -> Stopped:
         """On to what stops it, and at most to a step."""
         end = self.states.now.end if to is None else min(to, self.states.now.end)
         return self.moved(lambda: self.states.run(min(self.step + CHUNK, end), stops) if self.step < end else None)
 
-    def back(self, stops: Stops, to: int = 0) -> Stopped:
+    def back(self, stops: list[str], to: int = 0) -> Stopped:
         return self.moved(lambda: self.states.back(max(self.step - CHUNK, to), stops) if self.step > to else None)
 
     def moved(self, move: Callable[[], Stopped | None]) -> Stopped:
@@ -312,9 +307,7 @@ class Debugger:
         """To the end of the next turn of a processor; of a script to the next line."""
         if self.is_script:
             return self.forward(1)
-        stops = self.told_stops()
-        stops.add("turn_of", cpu)
-        return self.run(stops)
+        return self.run([*self.told_stops(), f"turn_of {cpu}"])
 
     def backward(self, count: int) -> Stopped:
         return self.states.go(max(self.step - count, 0))
@@ -325,9 +318,7 @@ class Debugger:
         if turn is None:
             return self.states.now
         if turn.cpu != cpu and not self.is_script:
-            stops = Stops()
-            stops.add("turn_of", cpu)
-            self.back(stops)
+            self.back([f"turn_of {cpu}"])
         return self.backward(1)
 
     def over(self, cpu: int | None = None) -> Stopped:
@@ -336,23 +327,20 @@ class Debugger:
         at = self.states.registers()[self.processor() if cpu is None else cpu]
         if at is None or self.is_script:
             return self.forward(1)
-        stops = self.told_stops()
         place = self.word_at(at.part, at.pc)
         word = self.states.words(place[0], place[1], 1)[0] if place else None
         returns = f" pc {(at.pc + 4) % (1 << 32)}" if self.instruction(word).split()[0] == "jal" else ""
-        stops.add("break", TEMPORARY, f"part {at.part}{returns}")
-        return self.run(stops)
+        return self.run([*self.told_stops(), f"break {TEMPORARY} part {at.part}{returns}"])
 
     def until(self, text: str) -> Stopped:
         """To a step, or a line of a script, where it is a number alone, else to a name or an address."""
         if re.fullmatch(r"\d+", text):
             step = sum(event.line < int(text) for event in self.events) if self.is_script else int(text)
             return self.run(self.told_stops(), step) if step > self.step else self.states.go(step)
-        stops, target = self.told_stops(), self.target(text)
-        of_frame = target.word and target.part is None
-        stops.add("break", TEMPORARY,
-                  f"place {target.word[0]}:{target.word[1]}" if target.word and of_frame else f"pc {target.address}")
-        return self.run(stops)
+        target = self.target(text)
+        is_frame = target.word and target.part is None
+        place = f"place {target.word[0]}:{target.word[1]}" if target.word and is_frame else f"pc {target.address}"
+        return self.run([*self.told_stops(), f"break {TEMPORARY} {place}"])
 
     # Changes by hand, and ways
 

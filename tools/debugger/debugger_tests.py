@@ -17,7 +17,7 @@ from common.machine import image as images, script
 from common.machine.model import World
 from step import states as pages
 from . import building
-from .client import States, Stops
+from .client import States
 from .debugger import Debugger
 
 PROGRAM = os.environ.get("PIP") or calling.PROVED
@@ -39,10 +39,6 @@ def script_world(text: bytes, last: int) -> World:
             told.line(line)
     assert told.world
     return told.world
-
-
-def stops_of(*lines: str) -> Stops:
-    return Stops(list(lines))
 
 
 class WithStates(unittest.TestCase):
@@ -116,19 +112,18 @@ class BackAsForward(WithStates):
             for stops in self.some_stops(debugger, drawn):
                 self.compare(states, stops, drawn)
 
-    def some_stops(self, debugger: Debugger, drawn: random.Random) -> list[Stops]:
+    def some_stops(self, debugger: Debugger, drawn: random.Random) -> list[list[str]]:
         names = [one for one in debugger.source.names.values() if one.word[1] < 1024]
-        found = [stops_of("line 1 call"), stops_of("idle"), stops_of(f"turn_of {debugger.states.cpus - 1}")]
+        found = [["line 1 call"], ["idle"], [f"turn_of {debugger.states.cpus - 1}"]]
         for _ in range(6):
             name, other = drawn.choice(names), drawn.choice(names)
             at = f"break 1 place {name.word[0]}:{name.word[1]}"
             watched = f"watch 2 word {other.word[0]}:{other.word[1]} 1"
-            found += [stops_of(at), stops_of(watched), stops_of(f"watch 4 address 1 {other.address} 2"),
-                      stops_of(at, watched, "line 3 out"),
-                      stops_of(f"watch 5 register {drawn.choice([1, 28])} {drawn.randrange(17)} 1")]
+            found += [[at], [watched], [f"watch 4 address 1 {other.address} 2"], [at, watched, "line 3 out"],
+                      [f"watch 5 register {drawn.choice([1, 28])} {drawn.randrange(17)} 1"]]
         return found
 
-    def compare(self, states: States, stops: Stops, drawn: random.Random) -> None:
+    def compare(self, states: States, stops: list[str], drawn: random.Random) -> None:
         end = 1500
         states.go(0)
         found = []
@@ -164,7 +159,7 @@ class Walks(unittest.TestCase):
 
     def move(self, walker: States, edits: list[tuple[int, Edit]], drawn: random.Random) -> None:
         here, step = walker.now.step, drawn.randrange(0, 2000)
-        stops = stops_of(f"line 1 {drawn.choice(['call', 'out', 'switch', 'reply'])}", *["idle"] * drawn.randrange(2))
+        stops = [f"line 1 {drawn.choice(['call', 'out', 'switch', 'reply'])}", *["idle"] * drawn.randrange(2)]
         what = drawn.randrange(8)
         if what < 2:
             walker.go(step)
@@ -213,8 +208,8 @@ class Requests(WithStates):
             with self.subTest(words=words):
                 self.assertRaises(Failed, self.states.ask, words.decode())
         self.assertEqual(self.states.go(100).step, 100)
-        odd = stops_of("watch 1 word 5000:0 3", "watch 2 address 999 0 3", "watch 4 word 0:4294967295 2",
-                       "watch 5 register 999 0 1", "watch 6 register 1 99 3", "line 3 ^ " + "* " * 40)
+        odd = ["watch 1 word 5000:0 3", "watch 2 address 999 0 3", "watch 4 word 0:4294967295 2",
+               "watch 5 register 999 0 1", "watch 6 register 1 99 3", "line 3 ^ " + "* " * 40]
         self.assertEqual(self.states.run(110, odd).step, 110)
 
 

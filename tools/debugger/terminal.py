@@ -173,7 +173,10 @@ class Terminal(cmd.Cmd):
         if not words:
             raise Failed("watch has a name, an address of a partition, a word of a frame, or a register")
         stop = self.debugger.add_watch(words[0], int(words[1], 0) if words[1:] else 1, after)
-        print(f"{stop.number}: watch {stop.told()}, {stop.parts[0]}")
+        kind, *where, count = stop.parts[0].split()
+        told = f", address 0x{int(where[1]):08x} of partition {where[0]}" if kind == "address" else \
+            f", word {where[0]}" * (kind == "word")
+        print(f"{stop.number}: watch {stop.told()}{told}" + f", {count} words" * (count != "1"))
 
     def do_delete(self, text: str) -> None:
         """delete [N]: takes a stop away, or all."""
@@ -216,7 +219,7 @@ class Terminal(cmd.Cmd):
             print(f"f{frame}:{index:<5} 0x{word:08x}  {name:24} {self.debugger.instruction(word)}".rstrip())
 
     def do_print(self, text: str) -> None:
-        """print rN|pc|NUMBER|NAME|[PLACE]: a number, in both forms."""
+        """print rN|pc|NUMBER|NAME|[PLACE]: a number, in both forms; NAME is the address, [NAME] the word there."""
         value = self.debugger.value(text)
         print(f"0x{value:08x} {value}")
 

@@ -19,7 +19,7 @@ from . import vsix
 HERE = os.path.dirname(os.path.abspath(__file__))
 SOURCE = ".frames 16\n.cpus 1\n.page 0x400000\nstart: jmp start\nsys 5\n"
 WRONG, CALL = "'jmp' is no instruction; did you mean jal or j?", "call 5, **addVAddr**: v, d, cv, rights"
-SCRIPTS = blocks("in_editors.txt", __file__)
+SCRIPTS = blocks("tests.txt", __file__)
 
 
 def has_eglot() -> bool:

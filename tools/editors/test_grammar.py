@@ -31,7 +31,7 @@ def patterns(told: Any) -> list[tuple[str, re.Pattern[str]]]:
 
 
 PATTERNS, OF_ASMX = (patterns(grammar(f"{name}.tmLanguage.json")) for name in ("pip", "asmx"))
-LINES = blocks("grammar.txt", __file__)
+LINES = blocks("tests.txt", __file__)
 
 
 def tokens(line: str, patterns: list[tuple[str, re.Pattern[str]]] = PATTERNS) -> list[tuple[str | None, str]]:

@@ -169,7 +169,7 @@ class MenuMoments(Moments):
         return super().after(before, choice)
 
     def after_deed(self, before: Moment, cpu: int, deed: Deed | None) -> tuple[Moment, Label | None]:
-        world = self.world(before)
+        world = before.world()
         told: list[str] = []
         Hostile(world, cpu, 0, told.append, deed).take()
-        return self.moment(world, before, min(before.turns + 1, self.first)), label_of(told)
+        return Moment(min(before.turns + 1, self.first), world.tree, world.processors), label_of(told)
