@@ -245,6 +245,7 @@ impl Auditor {
                 self.depth -= 1;
             }
         }
+        self.find_children(mem, steps);
         None
     }
 }
