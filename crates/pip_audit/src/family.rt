@@ -1,7 +1,7 @@
 //! The children of the nodes that were read, found once for all nodes.
-ghost use Rattle.std.specs.Prelude.{◌≡◌, ℕ, ◌<◌, ◌≤◌, ◌+◌, IfOk, None, length, slice_index};
+ghost use Rattle.std.specs.Prelude.{◌≡◌, ℕ, ◌<◌, ◌≤◌, ◌+◌, IfOk, None, length};
 ghost use Rattle.pip_audit.specs.Blocks.{AreKnown};
-ghost use Rattle.pip_audit.specs.Families.{HasFamilyRoom, IsNextOf, TakesChild, first_held, next_held, up_at};
+ghost use Rattle.pip_audit.specs.Families.{HasFamilyRoom, IsNextOf, TakesChild, first_held, up_at};
 ghost use Rattle.pip_audit.specs.Reading.{InWalk, IsRead};
 
 use crate::auditor::Auditor;
