@@ -1,4 +1,4 @@
-use Rattle.std.proofs.Common.{◌+◌, sym, ◌∙◌, arith}
+use Rattle.std.proofs.Common.{◌+◌, sym, ◌∙◌}
 use Rattle.std.specs.Prelude.{slice_index}
 use Rattle.pip_audit.specs.Families.{IsNextOf}
 use Rattle.pip_audit.specs.Judging.{parent_test}
@@ -23,47 +23,10 @@ loop-next-init g c =
       passed = each_first m a.names.items a.count (slice_index a.names.items y) _ _ n;
     }
 
-pub at-requires-clause-read : goal.at-requires-clause-read
-at-requires-clause-read g c = c.loop-next.invariant.read
-
 pub at-requires-clause-node : goal.at-requires-clause-node
 at-requires-clause-node g c =
     let inv = c.loop-next.invariant in
     rw inv.keeps.count (inv.child c.in-Some.x c.in-Some.is).1
-
-pub at-requires-clause-lends : goal.at-requires-clause-lends
-at-requires-clause-lends g c = c.loop-next.invariant.lends
-
-pub returns-then-not-at-clause-tells : goal.returns-then-not-at-clause-tells
-returns-then-not-at-clause-tells g c =
-    let m = g.M.Frames.memory c.args.mem.now in
-    let inv = c.loop-next.invariant in
-    let (lo, hi, up) = inv.child c.in-Some.x c.in-Some.is in
-    let fails = sym c.at.ensures.holds ∙ c.if-not-at.true in
-    (c.in-Some.x, lo, hi, rw (parent_test, up) (rw (inv.part, inv.keeps.names) at fails))
-
-pub returns-then-not-at-clause-keeps : goal.returns-then-not-at-clause-keeps
-returns-then-not-at-clause-keeps g c =
-    let keeps = c.loop-next.invariant.keeps in
-    rw c.at.ensures.rest (record { count = keeps.count; names = keeps.names })
-
-pub next_child_after-next-requires-clause-node : goal.next_child_after-next-requires-clause-node
-next_child_after-next-requires-clause-node g c =
-    let inv = c.loop-next.invariant in
-    rw (c.at.ensures.rest, inv.keeps.count) (inv.child c.in-Some.x c.in-Some.is).1
-
-pub next_child_after-next-requires-clause-inside : goal.next_child_after-next-requires-clause-inside
-next_child_after-next-requires-clause-inside g c =
-    let inv = c.loop-next.invariant in
-    rw (c.at.ensures.rest, inv.keeps.names, (inv.child c.in-Some.x c.in-Some.is).2, ← c.name-parent.ensures.name)
-    c.name-parent.ensures.inside
-
-pub loop-next-smaller : goal.loop-next-smaller
-loop-next-smaller g c =
-    let inv = c.loop-next.invariant in
-    let (lo, hi, up) = inv.child c.in-Some.x c.in-Some.is in
-    let later = rw (c.at.ensures.rest, inv.keeps.count) at c.next_child_after-next.ensures.later in
-    rw c.in-Some.is (omega (arith, hi, later))
 
 pub loop-next-preserved : goal.loop-next-preserved
 loop-next-preserved g c =
@@ -88,6 +51,3 @@ loop-next-preserved g c =
       passed = each_next m a.names.items a.count parent _ _ x before
           (rw (parent_test, up) (rw (inv.part, inv.keeps.names) at passes)) n;
     }
-
-pub returns-clause-tells : goal.returns-clause-tells
-returns-clause-tells g c = rw c.in_default.is at c.loop-next.invariant.passed

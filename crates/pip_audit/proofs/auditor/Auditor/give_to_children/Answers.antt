@@ -32,24 +32,6 @@ give_child-requires-clause-node g c =
     let inv = c.loop-next.invariant in
     rw inv.rest (inv.child c.in-Some.x c.in-Some.is).1
 
-pub next_child_after-next-requires-clause-node : goal.next_child_after-next-requires-clause-node
-next_child_after-next-requires-clause-node g c =
-    let inv = c.loop-next.invariant in
-    rw (c.give_child.ensures.rest, inv.rest) (inv.child c.in-Some.x c.in-Some.is).1
-
-pub next_child_after-next-requires-clause-inside : goal.next_child_after-next-requires-clause-inside
-next_child_after-next-requires-clause-inside g c =
-    let inv = c.loop-next.invariant in
-    rw (c.give_child.ensures.rest, inv.rest, (inv.child c.in-Some.x c.in-Some.is).2, ← c.name-parent.ensures.name)
-    c.name-parent.ensures.inside
-
-pub loop-next-smaller : goal.loop-next-smaller
-loop-next-smaller g c =
-    let inv = c.loop-next.invariant in
-    let (lo, hi, up) = inv.child c.in-Some.x c.in-Some.is in
-    let later = rw (c.give_child.ensures.rest, inv.rest) at c.next_child_after-next.ensures.later in
-    rw c.in-Some.is (omega (arith, hi, later))
-
 pub loop-next-preserved : goal.loop-next-preserved
 loop-next-preserved g c =
     let m = g.M.Frames.memory c.args.mem.now in

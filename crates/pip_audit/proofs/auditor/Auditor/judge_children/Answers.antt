@@ -1,25 +1,13 @@
-use Rattle.std.proofs.Common.{◌+◌, arith, not, refl, ap, ◌∙◌, subst}
+use Rattle.std.proofs.Common.{◌+◌, refl, subst}
 use Rattle.std.specs.Prelude.{slice_index}
 use Rattle.pip_model.specs.declared.level.Level.TheVariants.{Shadow2}
 use Rattle.pip_audit.specs.declared.auditor.Auditor.{Auditor}
 use Rattle.pip_audit.specs.Comparing.{CoversTables, LoadsOnly}
 use Rattle.pip_audit.specs.Families.{IsNextOf}
 use Rattle.pip_audit.proofs.Differing.{goes_then}
-use Rattle.pip_audit.proofs.Families.{each_first, each_next, each_none}
+use Rattle.pip_audit.proofs.Families.{each_first, each_next}
 use Rattle.pip_audit.proofs.Judges.{loads_placed, loads_then, tables_stay}
 use Rattle.pip_audit.proofs.auditor.Auditor.judge_children.Goals as goal
-
-pub returns-then-is_none-clause-goes : goal.returns-then-is_none-clause-goes
-returns-then-is_none-clause-goes g c = record { is = c.requires.is; stays = λ f e. e }
-
-pub returns-then-is_none-clause-covers : goal.returns-then-is_none-clause-covers
-returns-then-is_none-clause-covers g c =
-    let m = g.M.Frames.memory c.args.mem.now in
-    let a = c.args.self.now in
-    let parent = slice_index a.names.items c.args.y in
-    let n : IsNextOf m a.names.items a.count parent 1 c.first_child-next.result =
-    rw c.name-parent.ensures.name at c.first_child-next.ensures in
-    each_none m a.names.items a.count parent _ _ n (c.is_none.ensures ∙ ap not c.if-is_none.true)
 
 pub loop-next-init : goal.loop-next-init
 loop-next-init g c =
@@ -39,18 +27,10 @@ loop-next-init g c =
       covers = each_first m a.names.items a.count parent _ _ n;
     }
 
-pub judge_placed-first-requires-clause-other : goal.judge_placed-first-requires-clause-other
-judge_placed-first-requires-clause-other g c = (c.loop-next.invariant.child c.in-Some.x c.in-Some.is).0
-
 pub judge_placed-first-requires-clause-node : goal.judge_placed-first-requires-clause-node
 judge_placed-first-requires-clause-node g c =
     let inv = c.loop-next.invariant in
     rw inv.rest (inv.child c.in-Some.x c.in-Some.is).1
-
-pub judge_placed-first-requires-clause-places : goal.judge_placed-first-requires-clause-places
-judge_placed-first-requires-clause-places g c =
-    let inv = c.loop-next.invariant in
-    rw (ap (λ (z : Auditor). z.names.items) inv.rest, (inv.child c.in-Some.x c.in-Some.is).2) inv.places
 
 pub next_child_after-next-requires-clause-node : goal.next_child_after-next-requires-clause-node
 next_child_after-next-requires-clause-node g c =
@@ -67,13 +47,6 @@ next_child_after-next-requires-clause-inside g c =
       ← c.name-parent.ensures.name,
     )
     c.name-parent.ensures.inside
-
-pub loop-next-smaller : goal.loop-next-smaller
-loop-next-smaller g c =
-    let inv = c.loop-next.invariant in
-    let (lo, hi, up) = inv.child c.in-Some.x c.in-Some.is in
-    let later = rw (c.judge_placed-first.ensures.rest, inv.rest) at c.next_child_after-next.ensures.later in
-    rw c.in-Some.is (omega (arith, hi, later))
 
 pub loop-next-preserved : goal.loop-next-preserved
 loop-next-preserved g c =
@@ -102,6 +75,3 @@ loop-next-preserved g c =
           (λ k lo hi up. tables_stay m c.loop-next.first result _ Shadow2 next.goes (before k lo hi up))
           (subst (λ (z : Auditor). CoversTables m result (slice_index z.names.items x) Shadow2) inv.rest next.covers) n;
     }
-
-pub returns-clause-covers : goal.returns-clause-covers
-returns-clause-covers g c = rw c.in_default.is at c.loop-next.invariant.covers

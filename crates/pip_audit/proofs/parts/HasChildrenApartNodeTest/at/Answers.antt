@@ -50,16 +50,6 @@ returns-then-not-meet_held-clause-says g c =
           (ap (are_fresh met) held ∙ fresh ∙ c.if-not-meet_held.true),
     )
 
-pub returns-then-not-meet_held-clause-keeps : goal.returns-then-not-meet_held-clause-keeps
-returns-then-not-meet_held-clause-keeps g c =
-    let keeps = c.loop-next.invariant.keeps in
-    rw c.meet_held.ensures.rest (record { count = keeps.count; names = keeps.names })
-
-pub next_child_after-next-requires-clause-node : goal.next_child_after-next-requires-clause-node
-next_child_after-next-requires-clause-node g c =
-    let inv = c.loop-next.invariant in
-    rw (c.meet_held.ensures.rest, inv.keeps.count) (inv.child c.in-Some.k c.in-Some.is).1
-
 pub next_child_after-next-requires-clause-inside : goal.next_child_after-next-requires-clause-inside
 next_child_after-next-requires-clause-inside g c =
     let inv = c.loop-next.invariant in
@@ -70,13 +60,6 @@ next_child_after-next-requires-clause-inside g c =
       ← c.name-parent.ensures.name,
     )
     c.name-parent.ensures.inside
-
-pub loop-next-smaller : goal.loop-next-smaller
-loop-next-smaller g c =
-    let inv = c.loop-next.invariant in
-    let (lo, hi, up) = inv.child c.in-Some.k c.in-Some.is in
-    let later = rw (c.meet_held.ensures.rest, inv.keeps.count) at c.next_child_after-next.ensures.later in
-    rw c.in-Some.is (omega (arith, hi, later))
 
 pub loop-next-preserved : goal.loop-next-preserved
 loop-next-preserved g c =
