@@ -23,9 +23,12 @@ pub fn cut_line(text: &[u8]) -> (&[u8], &[u8])
     ensures cut { lines_of text.now ≡ result.0.now ∷ lines_of result.1.now }
     ensures shorter { length result.1.now < length text.now }
 {
-    // An empty line needs no search.
+    // An empty line needs no search, nor does one of one byte, as a bare remark.
     if let [b'\n', after @ ..] = text {
         return (&text[..0], after);
+    }
+    if let [_, b'\n', after @ ..] = text {
+        return (&text[..1], after);
     }
     match find_newline(text) {
         Some(at) => (&text[..at], &text[at + 1..]),

@@ -11,7 +11,7 @@ use Rattle.pip_model.specs.Parts.{part_no_lines_but_the_root, unless_broken}
 use Rattle.pip_model.specs.Tree.{Tree}
 use Rattle.pip_audit.specs.declared.auditor.Auditor.{Auditor}
 use Rattle.pip_audit.specs.Comparing.{tree_in}
-use Rattle.pip_audit.specs.Judging.{IsReadLater, KeepsBefore, TellsApart, TellsEach, keeps_to, parent_test, parts}
+use Rattle.pip_audit.specs.Judging.{IsReadLater, KeepsBefore, TellsApart, TellsChildren, TellsEach, keeps_to, parts}
 use Rattle.pip_audit.specs.Reading.{IsRead, tree_read}
 use Rattle.pip_audit.proofs.Children.{children_told}
 use Rattle.pip_audit.proofs.EachNode.{is_early, is_later, node_at, nodes_told, not_first, others_told, unrooted_top}
@@ -37,12 +37,12 @@ module _ (m : Memory) (a : Auditor) (r : IsRead m a) (z : Bool) where
   named_told t = told (each_other is_named_by_base) (others_told m a r.others r.has_read is_named_by_base z t)
 
   pub lent_told : part_parents_come_first (tree_in m) ≡ true
-      → TellsEach (λ x b. b ≡ parent_test is_lent_by m a.names.items x) 1 a.count z
+      → TellsEach (TellsChildren is_lent_by m a.names.items a.count) 0 a.count z
       → z ≡ each_child is_lent_by (tree_in m)
   lent_told one t = told (each_child is_lent_by) (children_told is_lent_by m a r one z t)
 
   pub part_rights_told : part_parents_come_first (tree_in m) ≡ true
-      → TellsEach (λ x b. b ≡ parent_test gives_no_more m a.names.items x) 1 a.count z → z ≡ part_rights (tree_in m)
+      → TellsEach (TellsChildren gives_no_more m a.names.items a.count) 0 a.count z → z ≡ part_rights (tree_in m)
   unfolding part_rights
   part_rights_told one t = told part_rights
       (ap (λ b. b && each_child gives_no_more (tree_read m r.others)) (all_can_read m a r)

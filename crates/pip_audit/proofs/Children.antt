@@ -11,7 +11,7 @@ use Rattle.pip_model.specs.Tree.{Node}
 use Rattle.pip_model.proofs.Audit.PartTests.{tests_parents_come_first}
 use Rattle.pip_audit.specs.declared.auditor.Auditor.{Auditor}
 use Rattle.pip_audit.specs.Comparing.{tree_in}
-use Rattle.pip_audit.specs.Judging.{TellsEach, parent_test}
+use Rattle.pip_audit.specs.Judging.{TellsChildren, TellsEach, parent_test}
 use Rattle.pip_audit.specs.Reading.{IsRead, tree_read}
 use Rattle.pip_audit.proofs.EachNode.{name_is, node_at, nodes_are, nodes_told, others_told, up_is}
 use Rattle.pip_audit.proofs.Siblings.{node_in, parent_at}
@@ -66,12 +66,12 @@ module _ (r : Node → Node → Bool) (m : Memory) (a : Auditor) where
   abbrev of_child : IsRead m a → Node → Bool
   of_child read x = list_all (with_child read x) (node_read m 1 ∷ read.others)
 
-  pub children_told : (read : IsRead m a) → part_parents_come_first (tree_in m) ≡ true → (z : Bool)
+  each_told : (read : IsRead m a) → part_parents_come_first (tree_in m) ≡ true → (z : Bool)
       → TellsEach (λ x b. b ≡ parent_test r m a.names.items x) 1 a.count z → list_all (of_child read) read.others ≡ z
-  children_told read one true t = others_told m a read.others read.has_read (of_child read) true (λ x lo hi.
+  each_told read one true t = others_told m a read.others read.has_read (of_child read) true (λ x lo hi.
       sym (nodes_told m a read.others read.has_read (with_child read (node_at m a.names.items x)) true (λ y low high.
       sym (holds_by_parent r m (slice_index a.names.items y) (slice_index a.names.items x) (sym (t x lo hi))))))
-  children_told read one false t =
+  each_told read one false t =
       let x = t.0 in
       let up = parent_place m a read one x t.1 t.2 in
       let names = a.names.items in
@@ -87,3 +87,13 @@ module _ (r : Node → Node → Bool) (m : Memory) (a : Auditor) where
               sym (breaks_by_parent r m (slice_index names up.0) (slice_index names x) up.2 (sym t.3)),
             )),
       )
+
+  pub children_told : (read : IsRead m a) → part_parents_come_first (tree_in m) ≡ true → (z : Bool)
+      → TellsEach (TellsChildren r m a.names.items a.count) 0 a.count z → list_all (of_child read) read.others ≡ z
+  children_told read one z t = each_told read one z (by_child z t)
+    where
+      by_child : (z : Bool) → TellsEach (TellsChildren r m a.names.items a.count) 0 a.count z
+          → TellsEach (λ x b. b ≡ parent_test r m a.names.items x) 1 a.count z
+      by_child true t = λ x lo hi. let p = parent_place m a read one x lo hi in
+          sym (t p.0 (omega arith) p.1 x lo hi (sym p.2))
+      by_child false t = let (k, lo, hi, e) = t.3 in (k, lo, hi, sym e)

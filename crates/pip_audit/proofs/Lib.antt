@@ -7,6 +7,7 @@ pub mod Verdicts
 pub mod Places
 pub mod Loads
 pub mod Walks
+pub mod Families
 pub mod EachNode
 pub mod PartLaws
 pub mod Givens

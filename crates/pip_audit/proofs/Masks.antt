@@ -1,6 +1,7 @@
 -- Masks of words, bit by bit.
 use Rattle.std.proofs.Common.{◌≡◌, ℕ, ◌+◌, ◌*◌, ◌<◌, ◌⊎◌, inl, inr, Option, Some, None, refl, sym, ap, ◌∙◌, arith}
-use Rattle.std.specs.Prelude.{bit_and, min}
+use Rattle.std.specs.Prelude.{List, [], bit_and, length, min, slice_index, slice_index_or}
+use Rattle.std.proofs.lemmas.List.{get_or_default}
 use Rattle.std.specs.Int.{bit_at}
 use Rattle.std.proofs.lemmas.Bool.{cases_eq}
 use Rattle.pip_base.specs.Memory.{Memory, word_at}
@@ -29,6 +30,14 @@ apart a b i e =
 -- each bit of the mask of an unread block is 1
 pub unset : (i : ℕ) → i < 32 → bit_at 4294967295 i ≡ 0 → ⊥
 unset i h e = let one : bit_at 4294967295 i ≡ 1 = bit_at_ones 32 i h in absurd (omega (arith, one, e))
+
+-- a word of the masks of a frame that was read
+pub mask_is : (s : Masks) (f k b : ℕ) (ws : List ℕ) → place_in s f ≡ Some k → k < length s.masks.items
+    → ws ≡ slice_index_or s.masks.items k ws → length ws ≡ 32 → b < 32 → mask_in s f b ≡ slice_index ws b
+mask_is s f k b ws at less is long h =
+    ap (λ o. mask_at s o b) at
+    ∙ ap (λ xs. slice_index_or xs b 4294967295) (sym (is ∙ get_or_default s.masks.items k ws [] less))
+    ∙ get_or_default ws b 4294967295 0 (omega (arith, long, h))
 
 -- a word whose bit is 0 in what is held is not of the kind
 pub is_none : (kind : Kind) (m : Memory) (s : Masks) (f b i : ℕ) → AreMasks kind m s → b < 32 → i < 32

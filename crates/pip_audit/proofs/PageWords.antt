@@ -257,6 +257,10 @@ pub descriptor_role : (x : Node) (cells : Level → ℕ → ℕ) (i : ℕ)
 unfolding role_word
 descriptor_role x cells i = refl
 
+-- a descriptor's words after its lines are 0
+pub no_descriptor_word : (x : Node) (i : ℕ) → 16 ≤ i → descriptor_word x i ≡ 0
+no_descriptor_word x i h = grind (arith, nat_tests, h)
+
 pub directory_role : (x : Node) (cells : Level → ℕ → ℕ) (level : Level) (i : ℕ)
     → role_word x cells (DirectoryPage level) i ≡ directory_entry level (table_at x.tables i)
 unfolding role_word

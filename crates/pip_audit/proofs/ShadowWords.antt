@@ -1,6 +1,7 @@
 -- The words of shadows, page by page.
-use Rattle.std.proofs.Common.{◌≡◌, ◌≢◌, ℕ, ◌+◌, ◌≤◌, ◌==◌, ◌&&◌, ◌||◌, inl, inr, List, [], ◌∷◌, ◌++◌, refl, sym, ap}
-use Rattle.std.proofs.Common.{ap₂, ◌∙◌, subst, arith, Some, Bool, true, false, cond, eq-eqb, ne_eqb}
+use Rattle.std.proofs.Common.{◌≡◌, ◌≢◌, ℕ, zero, suc, ◌+◌, ◌-◌, ◌<◌, ◌≤◌, ◌==◌, ◌&&◌, ◌||◌, inl, inr}
+use Rattle.std.proofs.Common.{List, [], ◌∷◌, ◌++◌, refl, sym, ap, ap₂, ◌∙◌, subst, arith}
+use Rattle.std.proofs.Common.{Some, Bool, true, false, cond, eq-eqb, ne_eqb}
 use Rattle.std.specs.Prelude.{if◌then◌else◌, find, filter, option_map, slice_index}
 use Rattle.std.proofs.lemmas.Bool.{cases_eq}
 use Rattle.pip_base.specs.Memory.{Memory, word_at}
@@ -10,10 +11,11 @@ use Rattle.pip_model.specs.Lists.{In, has}
 use Rattle.pip_model.specs.ReadOff.{node_read}
 use Rattle.pip_model.specs.Tree.{Node, Row, config, holds, row_pages, vpage}
 use Rattle.pip_audit.specs.declared.auditor.Auditor.{Auditor}
+use Rattle.pip_audit.specs.Families.{up_at}
 use Rattle.pip_audit.specs.FrameWords.{word_held}
 use Rattle.pip_audit.specs.Given.{GivesAll, given_over, held_or, held_over, held_with, word_as}
 use Rattle.pip_audit.specs.Reading.{AreNames}
-use Rattle.pip_audit.proofs.EachNode.{name_is, node_at, nodes_are}
+use Rattle.pip_audit.proofs.EachNode.{name_is, node_at, nodes_are, up_is}
 use Rattle.pip_audit.proofs.Walks.{names_count}
 
 same : {A : Type 0} (b : Bool) (x : A) → (if b then x else x) ≡ x
@@ -122,6 +124,26 @@ more_given m names parent count held new some so_far e (x ∷ xs) n is g =
     go true true q ys = sym (ap (λ b. given_by (cond b (Some x) (find (λ y. holds y g) ys)) g) q)
     go true false q ys = sym (ap (λ b. given_by (cond b (Some x) (find (λ y. holds y g) ys)) g) q)
     go false h q ys = refl
+
+-- nodes that aren't children are passed
+pass_strangers : (m : Memory) (names : List ℕ) (parent x n : ℕ) (held : ℕ → ℕ) → 1 ≤ x
+    → ((j : ℕ) → x ≤ j → j < x + n → up_at m names j ≢ parent) → GivenSoFar m names parent x held
+    → GivenSoFar m names parent (x + n) held
+pass_strangers m names parent x zero held one none s = let same : x ≡ x + 0 = omega arith in
+    subst (λ k. GivenSoFar m names parent k held) same s
+pass_strangers m names parent x (suc n) held one none s =
+    let same : x + n + 1 ≡ x + suc n = omega arith in
+    subst (λ k. GivenSoFar m names parent k held) same (more_given m names parent (x + n) held held (omega (arith, one))
+    (pass_strangers m names parent x n held one (λ j lo hi. none j lo (omega (arith, hi))) s) (λ g.
+    not_given parent (node_at m names (x + n)) held g
+    (λ q. none (x + n) (omega arith) (omega arith) (sym (up_is m (slice_index names (x + n))) ∙ q))))
+
+pub pass_given : (m : Memory) (names : List ℕ) (parent x y : ℕ) (held : ℕ → ℕ) → 1 ≤ x → x ≤ y
+    → ((j : ℕ) → x ≤ j → j < y → up_at m names j ≢ parent) → GivenSoFar m names parent x held
+    → GivenSoFar m names parent y held
+pass_given m names parent x y held one below none s =
+    let same : x + (y - x) ≡ y = omega (arith, below) in
+    rw same at (pass_strangers m names parent x (y - x) held one (λ j lo hi. none j lo (omega (arith, hi, below))) s)
 
 pub given_all : (m : Memory) (a b : Auditor) (y count parent : ℕ) → count ≡ a.count
     → parent ≡ slice_index a.names.items y → GivenSoFar m a.names.items parent count (word_held b.words.given)

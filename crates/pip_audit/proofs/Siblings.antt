@@ -127,6 +127,29 @@ module _ (h : ℕ → List ℕ) (x : ℕ) (a : ℕ → Bool) (s : SoFar h x a) (
     | inr t ↦ inr t
   ]
 
+-- nothing is marked
+pub so_far_none : (h : ℕ → List ℕ) (a : ℕ → Bool) → ((g : ℕ) → a g ≡ false) → SoFar h 1 a
+so_far_none h a none = record {
+  from = λ g e. absurd (cc (none g));
+  met = λ g j lo hi. absurd (omega (arith, lo, hi));
+  apart = λ j k lo less hi. absurd (omega (arith, lo, less, hi));
+}
+
+-- places where nothing is held are passed
+pub so_far_pass : (h : ℕ → List ℕ) (x y : ℕ) (a : ℕ → Bool) → x ≤ y → ((j : ℕ) → x ≤ j → j < y → h j ≡ []) → SoFar h x a
+    → SoFar h y a
+so_far_pass h x y a below none s = record {
+  from = λ g e. let (j, one, less, i) = s.from g e in (j, one, omega (arith, less, below), i);
+  met = λ g j lo hi i. s.met g j lo (inside g j hi i) i;
+  apart = λ j k lo less hi g p q. s.apart j k lo less (inside g k hi q) g p q;
+}
+  where
+    inside : (g j : ℕ) → j < y → In g (h j) → j < x
+    inside g j hi i = elim (cases_lt j x) [
+      | inl less ↦ less
+      | inr more ↦ absurd (subst (In g) (none j more hi) i)
+    ]
+
 -- ---- what a child holds
 
 pub held_child : (m : Memory) (parent f : ℕ) → word_at m f 11 ≡ parent → held_by m parent f ≡ held_pages (node_read m f)

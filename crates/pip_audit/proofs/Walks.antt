@@ -13,6 +13,8 @@ use Rattle.pip_model.specs.ReadOff.{visits, walk}
 use Rattle.pip_model.specs.Tree.{Node, names_of}
 use Rattle.pip_model.specs.Walking.{Standing, ahead_of, visits_from}
 use Rattle.pip_model.proofs.Audit.Walking.{visits_end, visits_step, visits_whole, walk_on}
+use Rattle.pip_audit.specs.declared.family.Family.{Family}
+use Rattle.pip_audit.specs.Families.{HasChildren, HasFamilyRoom}
 use Rattle.pip_audit.specs.declared.frame_set.FrameSet.{FrameSet}
 use Rattle.pip_audit.specs.declared.frame_set.Sets.{Sets}
 use Rattle.pip_audit.specs.FrameSets.{AreSets}
@@ -211,6 +213,7 @@ room_on n page at a o b r u e = record {
   child = rw (e.child, u.child) r.child;
   sets = rw (e.sets, u.sets) r.sets;
   words = rw (e.words, u.words) r.words;
+  family = rw (e.family, u.family) r.family;
 }
 
 name_is : (m : Memory) (f : ℕ) → (node_read m f).name ≡ f
@@ -426,9 +429,19 @@ popped m a t w h deep none =
           ∙ rw (visits_end m (top_page a) (top_from a) none);
     }
 
+-- children are found
+pub walks_found : (m : Memory) (a : Auditor) (s : Family) → InWalk m a → HasFamilyRoom (length m) s
+    → InWalk m (record a { family = s })
+walks_found m a s w h =
+    let q = w.has_read.room in
+    let room : IsFor (length m) (record a { family = s }) = assumption in
+    let has_read = has_read_with m a (record a { family = s }) w.others w.has_read room refl refl refl in
+    still m a (record a { family = s }) w has_read refl refl refl refl
+
 -- nothing is left
-pub ended : (m : Memory) (a : Auditor) (w : InWalk m a) → AreKnown m a.blocks → a.depth ≡ 0 → IsRead m a
-ended m a w known z = go w.stack refl w.standing
+pub ended : (m : Memory) (a : Auditor) (w : InWalk m a) → AreKnown m a.blocks → a.depth ≡ 0
+    → HasChildren m a.names.items a.count a.family 1 → IsRead m a
+ended m a w known z found = go w.stack refl w.standing
   where
     go : (stack : List Standing) → w.stack ≡ stack → AreStanding a.standing.items a.from.items a.depth stack
         → IsRead m a
@@ -437,6 +450,7 @@ ended m a w known z = go w.stack refl w.standing
       has_read = w.has_read;
       whole = rw (w.goes, e) (walk_whole m (node_read m 1) w.left w.others);
       known = known;
+      children = found;
     }
     go (s ∷ ss) e h = absurd (omega arith)
 
@@ -464,6 +478,7 @@ started m a b least r root nought none new e =
           child = rw e.child r.child;
           sets = rw e.sets r.sets;
           words = rw e.words r.words;
+          family = rw e.family r.family;
         };
         root = root;
         names = (omega arith, name);
@@ -531,7 +546,7 @@ stays_marked m a b r h l e =
     let q = r.has_read.room in
     let room : IsFor (length m) c = assumption in
     let has_read = has_read_with m a c r.others r.has_read room refl refl refl in
-    rw e (record { others = r.others; has_read = has_read; whole = r.whole; known = r.known })
+    rw e (record { others = r.others; has_read = has_read; whole = r.whole; known = r.known; children = r.children })
 
 pub stays_changed : (m : Memory) (a : Auditor) (s : Sets) → IsRead m a → AreSets (length m) s
     → IsRead m (record a { sets = s })
@@ -548,4 +563,5 @@ stays_worded m a w r h =
       has_read = has_read_with m a (record a { words = w }) r.others r.has_read room refl refl refl;
       whole = r.whole;
       known = r.known;
+      children = r.children;
     }

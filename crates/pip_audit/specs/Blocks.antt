@@ -30,6 +30,10 @@ mask_at s (Some k) b = slice_index_or (slice_index_or s.masks.items k []) b 4294
 abbrev pub mask_in : Masks → ℕ → ℕ → ℕ
 mask_in s f b = mask_at s (place_in s f) b
 
+-- a place that was told is that of the frame's masks
+abbrev pub IsPlaceIn : Masks → ℕ → Option ℕ → Type 0
+IsPlaceIn s f o = (k : ℕ) → o ≡ Some k → (place_in s f ≡ Some k) × (k < length s.masks.items)
+
 -- each word of a frame whose bit is 0 in these masks is not of the kind
 abbrev pub AreMasksOf : Kind → Memory → ℕ → List ℕ → Type 0
 AreMasksOf kind m f masks = (b i : ℕ) → b < 32 → i < 32 → bit_at (slice_index_or masks b 4294967295) i ≡ 0

@@ -1,6 +1,6 @@
 -- A memory compared with the layout of the tree that is read off it.
 use Rattle.std.specs.Prelude.{◌≡◌, ℕ, ◌+◌, ◌<◌, ◌≤◌, ◌⊎◌, Bool, true, false, [], length, not, Option, Some, None}
-use Rattle.std.specs.Prelude.{nat_lt, if◌then◌else◌, option_map}
+use Rattle.std.specs.Prelude.{nat_lt, if◌then◌else◌, option_map, slice_index}
 use Rattle.pip_base.specs.Memory.{Memory, word_at}
 use Rattle.pip_base.specs.Words.{directory_word}
 use Rattle.pip_model.specs.declared.reading.Difference.{Difference}
@@ -19,6 +19,7 @@ use Rattle.pip_audit.specs.declared.auditor.Auditor.{Auditor}
 use Rattle.pip_audit.specs.declared.tables.Triple.{Triple}
 use Rattle.pip_audit.specs.declared.wanted.Role.{Role}
 use Rattle.pip_audit.specs.declared.wanted.Role.TheVariants as R
+use Rattle.pip_audit.specs.Families.{up_at}
 use Rattle.pip_audit.specs.FrameWords.{AreFrameWords, word_held}
 use Rattle.pip_audit.specs.FrameSets.{AreSets, contains}
 use Rattle.pip_audit.specs.Tables.{IsOf, tables_in}
@@ -177,3 +178,8 @@ LoadsOnly old new = new ≡ record old { node = new.node; child = new.child; wor
 pub record CoversNode (m : Memory) (found : Option Difference) (part : ℕ) : Type 0 where
   pub plain : CoversPlain m found part
   pub given : CoversTables m found part Shadow1
+
+-- the second shadows of those nodes below a place that name this parent are
+abbrev pub CoversChildren : Memory → Auditor → Option Difference → ℕ → ℕ → Type 0
+CoversChildren m a found parent end = (k : ℕ) → 1 ≤ k → k < end → up_at m a.names.items k ≡ parent
+    → CoversTables m found (slice_index a.names.items k) Shadow2

@@ -11,7 +11,7 @@ use Rattle.pip_model.specs.Parts.{part_no_lines_but_the_root}
 use Rattle.pip_model.specs.ReadOff.{node_read}
 use Rattle.pip_model.specs.Tree.{Node, Row, Tree, held_pages, page_at, row_pages, vpage}
 use Rattle.pip_audit.specs.declared.auditor.Auditor.{Auditor}
-use Rattle.pip_audit.specs.Comparing.{tree_in}
+use Rattle.pip_audit.specs.Families.{up_at}
 use Rattle.pip_audit.specs.FrameSets.{contains}
 use Rattle.pip_audit.specs.FrameWords.{rights_held}
 use Rattle.pip_audit.specs.Tables.{IsOf}
@@ -42,7 +42,13 @@ TellsEach says from end false = (k : ℕ) × (from ≤ k) × (k < end) × says k
 
 -- a relation of a parent and its child, tested of the node at place x and the parent that it names
 abbrev pub parent_test : (Node → Node → Bool) → Memory → List ℕ → ℕ → Bool
-parent_test r m names x = r (node_read m (word_at m (slice_index names x) 11)) (node_read m (slice_index names x))
+parent_test r m names x = r (node_read m (up_at m names x)) (node_read m (slice_index names x))
+
+-- the same relation, tested of the node at place y and its children: all pass, or one fails
+abbrev pub TellsChildren : (Node → Node → Bool) → Memory → List ℕ → ℕ → ℕ → Bool → Type 0
+TellsChildren r m names count y true = (k : ℕ) → 1 ≤ k → k < count → up_at m names k ≡ slice_index names y
+    → parent_test r m names k ≡ true
+TellsChildren r m names count y false = (k : ℕ) × (1 ≤ k) × (k < count) × (parent_test r m names k ≡ false)
 
 -- the nodes that were read stay
 pub record KeepsNodes (old new : Auditor) : Type 0 where
@@ -68,12 +74,6 @@ pub record Lends (m : Memory) (a : Auditor) : Type 0 where
   pub of : IsOf m a.node
   pub rows : (f : ℕ) → contains a.sets.lent f ≡ has (row_pages (node_read m a.node.part)) f
   pub rights : AreRights (rights_held a.words.rights) (node_read m a.node.part).rows
-
--- a node's parent can be loaded: parents come first, it isn't the root, and some node is loaded as a parent
-pub record HasParent (m : Memory) (a : Auditor) (x : ℕ) : Type 0 where
-  pub other : 1 ≤ x
-  pub parents : part_parents_come_first (tree_in m) ≡ true
-  pub lends : Lends m a
 
 -- whether a row's rights are among those that are held for its page
 abbrev pub is_given : (ℕ → ℕ) → Row → Bool

@@ -1,6 +1,7 @@
 pub mod Links
 pub mod Givens
 pub mod Tables
+pub mod Families
 pub mod FrameSets
 pub mod FrameWords
 pub mod Blocks

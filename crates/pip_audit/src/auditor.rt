@@ -6,6 +6,7 @@ ghost use Rattle.pip_audit.specs.Verdict.{verdict_of};
 ghost use Rattle.pip_audit.specs.Reading.{IsFor};
 
 use crate::blocks::Blocks;
+use crate::family::Family;
 use crate::frame_set::Sets;
 use crate::frame_words::Words;
 use crate::shape::see_frames;
@@ -57,6 +58,8 @@ pub struct Auditor {
     pub(crate) words: Words,
     // What is known of the blocks of MMU tables and of first shadows.
     pub(crate) blocks: Blocks,
+    // The children of each node, once all were read.
+    pub(crate) family: Family,
 }
 
 impl Auditor {
@@ -79,6 +82,7 @@ impl Auditor {
             sets: Sets::new(alloc, count)?,
             words: Words::new(alloc, count)?,
             blocks: Blocks::new(alloc, count)?,
+            family: Family::new(alloc, count)?,
         })
     }
 

@@ -1,8 +1,11 @@
 //! What is known of the words of frames, by blocks of 32.
-ghost use Rattle.std.specs.Prelude.{◌≡◌, ℕ, ◌+◌, ◌*◌, ◌%◌, ◌<◌, ◌≤◌, ◌==◌, false, true, None, length};
+ghost use Rattle.std.specs.Prelude.{◌≡◌, ℕ, ◌+◌, ◌*◌, ◌%◌, ◌<◌, ◌≤◌, ◌==◌, bit_and, false, true, None, length};
+ghost use Rattle.std.specs.Prelude.{slice_index};
 ghost use Rattle.std.specs.Int.{bit_at};
 ghost use Rattle.pip_base.specs.Memory.{word_at};
-ghost use Rattle.pip_audit.specs.Blocks.{AreKnown, AreMasks, AreMasksOf, IsNone, LacksSought, mask_in, place_in};
+ghost use Rattle.pip_audit.specs.Blocks.{AreKnown, AreMasks, AreMasksOf, IsNone, IsPlaceIn, LacksSought, mask_in};
+ghost use Rattle.pip_audit.specs.Blocks.{place_in};
+ghost use Rattle.pip_audit.specs.declared.tables.SoughtRows.TheVariants.{Child};
 
 use crate::tables::{SoughtRows, Triple};
 use pip_base::{Frame, Steps};
@@ -78,6 +81,18 @@ fn masks_of<M: Frames, L: Ledger>(kind: Kind, mem: &M, f: Frame, steps: &mut Ste
     masks
 }
 
+// Whether no word is in both.
+fn are_apart(xs: &[u32; 32], ys: &[u32; 32]) -> bool
+    ensures apart { result ≡ true → (b : ℕ) → b < 32 → bit_and (slice_index xs.now b) (slice_index ys.now b) ≡ 0 }
+    ensures long { (length xs.now ≡ 32) × (length ys.now ≡ 32) }
+{
+    let mut apart = true;
+    for b in 0..32 {
+        apart = apart & (xs[b] & ys[b] == 0);
+    }
+    apart
+}
+
 impl Masks {
     /// Nothing is known of a memory of `n` frames, 4096 at most.
     fn new(alloc: Global, n: usize) -> Result<Masks, AllocError>
@@ -112,6 +127,21 @@ impl Masks {
                 self.masks[place as usize][b as usize]
             }
             _ => u32::MAX,
+        }
+    }
+
+    // The place of the blocks of a frame, if it was read.
+    fn place_of(&self, f: Frame) -> Option<usize>
+        requires { f < 4096 }
+        ensures { IsPlaceIn self.now f result }
+    {
+        let k = f.number() as usize;
+        if k >= self.place.len() {
+            return None;
+        }
+        match self.place[k] {
+            Some(place) if (place as usize) < self.masks.len() => Some(place as usize),
+            _ => None,
         }
     }
 
@@ -167,6 +197,21 @@ impl Blocks {
             SoughtRows::Any => rows == 0,
             SoughtRows::Child => rows & self.descriptors.at(tables.shadow1, b) == 0,
         }
+    }
+
+    /// Whether all blocks of the tables of a directory index are known to lack rows of children.
+    pub(crate) fn lacks_children(&self, tables: Triple) -> bool
+        requires mmu { tables.mmu < 4096 }
+        requires shadow { tables.shadow1 < 4096 }
+        ensures { result ≡ true → (b : ℕ) → b < 32 → LacksSought Child self.now tables b }
+    {
+        let Some(i) = self.rows.place_of(tables.mmu) else {
+            return false;
+        };
+        let Some(j) = self.descriptors.place_of(tables.shadow1) else {
+            return false;
+        };
+        are_apart(&self.rows.masks[i], &self.descriptors.masks[j])
     }
 
     /// Reads an MMU table.

@@ -1,5 +1,5 @@
 //! Tests of the nodes that were read, one after the other.
-ghost use Rattle.std.specs.Prelude.{◌≡◌, ℕ, ◌+◌, ◌<◌, Bool, List, true};
+ghost use Rattle.std.specs.Prelude.{ℕ, ◌<◌, Bool, List};
 ghost use Rattle.pip_base.specs.Memory.{Memory};
 ghost use Rattle.pip_audit.specs.Judging.{KeepsNodes, TellsEach};
 ghost use Rattle.pip_audit.specs.Reading.{IsRead};
@@ -11,11 +11,6 @@ use std::sync::ledger::Ledger;
 
 /// A test of a node, by its place among the names.
 pub(crate) trait NodeTest {
-    ghost use Rattle.pip_audit.specs.declared.auditor.Auditor.{Auditor};
-
-    /// What it needs at a place, once all before it passed.
-    ghost needs: { Memory → Auditor → ℕ → Type 0 } = { λ _ _ _. Unit {0} };
-
     /// What it says of a place, by the names and by how many of them are nodes.
     ghost says: { Memory → List ℕ → ℕ → ℕ → Bool → Type 0 };
 
@@ -23,9 +18,7 @@ pub(crate) trait NodeTest {
     fn at<M: Frames, L: Ledger>(a: &mut Auditor, mem: &M, x: usize, steps: &mut Steps<L>) -> bool
         requires read { IsRead (M.memory mem.now) a.old }
         requires node { x < a.old.count }
-        requires needs { needs (M.memory mem.now) a.old x }
         ensures says { says (M.memory mem.now) a.old.names.items a.old.count x result }
-        ensures needs { result ≡ true → needs (M.memory mem.now) a.new (x + 1) }
         ensures read { IsRead (M.memory mem.now) a.new }
         ensures keeps { KeepsNodes a.old a.new };
 }
@@ -39,7 +32,6 @@ impl Auditor {
         steps: &mut Steps<L>,
     ) -> bool
         requires read { IsRead (M.memory mem.now) self.old }
-        requires needs { T.needs (M.memory mem.now) self.old from }
         ensures each { TellsEach (T.says (M.memory mem.now) self.old.names.items self.old.count)
             from self.old.count result }
         ensures read { IsRead (M.memory mem.now) self.new }

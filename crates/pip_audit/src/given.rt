@@ -3,6 +3,7 @@ ghost use Rattle.std.specs.Prelude.{◌≡◌, ◌<◌, ◌≤◌, ◌==◌, if�
 ghost use Rattle.pip_base.specs.Words.{as_descriptor, shadow1_word};
 ghost use Rattle.pip_model.specs.ReadOff.{node_stop};
 ghost use Rattle.pip_model.specs.Tree.{vpage};
+ghost use Rattle.pip_audit.specs.Families.{up_at};
 ghost use Rattle.pip_audit.specs.FrameWords.{HasWordEach};
 ghost use Rattle.pip_audit.specs.Given.{GivesAll, GivesChild, GivesConfig, GivesRows, PlacesRows};
 ghost use Rattle.pip_audit.specs.Reading.{IsRead};
@@ -15,7 +16,7 @@ use crate::frame_words::FrameWords;
 use crate::pages::{count_pages, page};
 use crate::tables::Tables;
 use pip_base::{Frame, Steps, VPage};
-use pip_entry::descriptor::{PARENT, SELF_VA};
+use pip_entry::descriptor::SELF_VA;
 use pip_entry::{Sh2, pack_sh2};
 use pip_frames::Frames;
 use std::sync::ledger::Ledger;
@@ -97,26 +98,17 @@ impl FrameWords {
 }
 
 impl Auditor {
-    // Holds the words of all that node `x` holds, if it is a child of this parent. A page that is both configuration
-    // and in a row counts as configuration.
-    fn give_child<M: Frames, L: Ledger>(
-        &mut self,
-        mem: &M,
-        x: usize,
-        parent: Frame,
-        steps: &mut Steps<L>,
-    )
+    // Holds the words of all that node `x` holds, as a child. A page that is both configuration and in a row counts as
+    // configuration.
+    fn give_child<M: Frames, L: Ledger>(&mut self, mem: &M, x: usize, steps: &mut Steps<L>)
         requires read { IsRead (M.memory mem.now) self.old }
         requires node { x < self.old.count }
-        ensures words { GivesChild (M.memory mem.now) parent x self.old self.new }
+        ensures words { GivesChild (M.memory mem.now) (up_at (M.memory mem.now) self.old.names.items x) x
+            self.old self.new }
         ensures read { IsRead (M.memory mem.now) self.new }
         ensures rest { self.new ≡ record self.old { child = self.new.child; words = self.new.words } }
     {
         let part = self.name(mem, x);
-        let up = mem.word(part, PARENT, steps);
-        if up != parent.number() {
-            return;
-        }
         self.child.load(mem, part, steps);
         self.words
             .given
@@ -140,8 +132,10 @@ impl Auditor {
     {
         let parent = self.name(mem, y);
         self.words.given.fill(0);
-        for x in 1..self.count {
-            self.give_child(mem, x, parent, steps);
+        let mut next = self.first_child(mem, parent);
+        while let Some(x) = next {
+            self.give_child(mem, x, steps);
+            next = self.next_child_after(mem, x);
         }
     }
 
@@ -151,8 +145,7 @@ impl Auditor {
         requires read { IsRead (M.memory mem.now) self.old }
         requires part { part < length (M.memory mem.now) }
         requires passes { node_stop (M.memory mem.now) part ≡ None }
-        ensures places { PlacesRows (M.memory mem.now) self.new.child.part self.new.words.above }
-        ensures part { self.new.child.part ≡ part }
+        ensures places { PlacesRows (M.memory mem.now) part self.new.words.above }
         ensures read { IsRead (M.memory mem.now) self.new }
         ensures rest { self.new ≡ record self.old { child = self.new.child; words = self.new.words } }
     {
@@ -160,28 +153,5 @@ impl Auditor {
         self.words
             .above
             .place_rows(&self.child, mem, &self.blocks, steps);
-    }
-
-    /// Places a node, as `place` does, unless it is the one that is loaded beside.
-    pub(crate) fn place_from<M: Frames, L: Ledger>(
-        &mut self,
-        mem: &M,
-        part: Frame,
-        steps: &mut Steps<L>,
-    )
-        requires read { IsRead (M.memory mem.now) self.old }
-        requires places { PlacesRows (M.memory mem.now) self.old.child.part self.old.words.above }
-        requires part { part < length (M.memory mem.now) }
-        requires passes { node_stop (M.memory mem.now) part ≡ None }
-        ensures places { PlacesRows (M.memory mem.now) self.new.child.part self.new.words.above }
-        ensures part { self.new.child.part ≡ part }
-        ensures read { IsRead (M.memory mem.now) self.new }
-        ensures rest { self.new ≡ record self.old { child = self.new.child; words = self.new.words } }
-    {
-        let loaded = self.child.part();
-        if loaded.number() == part.number() {
-            return;
-        }
-        self.place(mem, part, steps);
     }
 }

@@ -3,8 +3,9 @@ ghost use Rattle.std.specs.Prelude.{◌≡◌, ℕ, ◌<◌, ◌≤◌, slice_in
 ghost use Rattle.pip_model.specs.Audit.{difference};
 ghost use Rattle.pip_model.specs.declared.level.Level.TheVariants.{Mmu, Shadow1, Shadow2};
 ghost use Rattle.pip_model.specs.Sound.{IsSound};
-ghost use Rattle.pip_audit.specs.Comparing.{Covers, CoversNode, CoversPlain, CoversTables, GoesOn, HoldsLevel};
-ghost use Rattle.pip_audit.specs.Comparing.{IsDifference, LoadsOnly, tree_in};
+ghost use Rattle.pip_audit.specs.Comparing.{Covers, CoversChildren, CoversNode, CoversPlain, CoversTables, GoesOn};
+ghost use Rattle.pip_audit.specs.Comparing.{HoldsLevel, IsDifference, LoadsOnly, tree_in};
+ghost use Rattle.pip_audit.specs.Families.{up_at};
 ghost use Rattle.pip_audit.specs.Given.{PlacesRows};
 ghost use Rattle.pip_audit.specs.Reading.{IsRead};
 
@@ -101,7 +102,7 @@ impl Auditor {
         self.judge_given(mem, x, first, steps)
     }
 
-    // Judges the second shadows of node `x`, which isn't the root.
+    // Judges the second shadows of node `x`, whose parent is placed.
     fn judge_placed<M: Frames, L: Ledger>(
         &mut self,
         mem: &M,
@@ -113,19 +114,49 @@ impl Auditor {
         requires sound { IsSound (tree_in (M.memory mem.now)) }
         requires other { 1 ≤ x }
         requires node { x < self.old.count }
-        requires places { PlacesRows (M.memory mem.now) self.old.child.part self.old.words.above }
+        requires places { PlacesRows (M.memory mem.now) (up_at (M.memory mem.now) self.old.names.items x)
+            self.old.words.above }
         requires is { IsDifference (M.memory mem.now) found }
         ensures goes { GoesOn (M.memory mem.now) found result }
         ensures covers { CoversTables (M.memory mem.now) result (slice_index self.old.names.items x) Shadow2 }
-        ensures places { PlacesRows (M.memory mem.now) self.new.child.part self.new.words.above }
         ensures read { IsRead (M.memory mem.now) self.new }
-        ensures rest { LoadsOnly self.old self.new }
+        ensures rest { self.new ≡ record self.old { node = self.new.node } }
     {
-        let parent = self.parent(mem, x, steps);
-        self.place_from(mem, parent, steps);
         let part = self.name(mem, x);
         self.node.load(mem, part, steps);
         self.judge_tables(mem, Level::Shadow2, found, steps)
+    }
+
+    // Judges the second shadows of the children of node `y`.
+    fn judge_children<M: Frames, L: Ledger>(
+        &mut self,
+        mem: &M,
+        y: usize,
+        found: Option<Difference>,
+        steps: &mut Steps<L>,
+    ) -> Option<Difference>
+        requires read { IsRead (M.memory mem.now) self.old }
+        requires sound { IsSound (tree_in (M.memory mem.now)) }
+        requires node { y < self.old.count }
+        requires is { IsDifference (M.memory mem.now) found }
+        ensures goes { GoesOn (M.memory mem.now) found result }
+        ensures covers { CoversChildren (M.memory mem.now) self.old result (slice_index self.old.names.items y)
+            self.old.count }
+        ensures read { IsRead (M.memory mem.now) self.new }
+        ensures rest { LoadsOnly self.old self.new }
+    {
+        let parent = self.name(mem, y);
+        let mut next = self.first_child(mem, parent);
+        let mut first = found;
+        if next.is_none() {
+            return first;
+        }
+        self.place(mem, parent, steps);
+        while let Some(x) = next {
+            first = self.judge_placed(mem, x, first, steps);
+            next = self.next_child_after(mem, x);
+        }
+        first
     }
 
     // ---- all frames
@@ -174,8 +205,7 @@ impl Auditor {
         first
     }
 
-    // Judges the second shadows of all nodes but the root. A parent is loaded once for all children that were read one
-    // after the other.
+    // Judges the second shadows of all nodes but the root: those of the children of each node.
     fn judge_all_placed<M: Frames, L: Ledger>(
         &mut self,
         mem: &M,
@@ -186,14 +216,13 @@ impl Auditor {
         requires sound { IsSound (tree_in (M.memory mem.now)) }
         requires is { IsDifference (M.memory mem.now) found }
         ensures goes { GoesOn (M.memory mem.now) found result }
-        ensures covers { (x : ℕ) → 1 ≤ x → x < self.old.count → CoversTables (M.memory mem.now) result
-            (slice_index self.old.names.items x) Shadow2 }
+        ensures covers { (y : ℕ) → y < self.old.count → CoversChildren (M.memory mem.now) self.old result
+            (slice_index self.old.names.items y) self.old.count }
         ensures read { IsRead (M.memory mem.now) self.new }
     {
-        self.place(mem, Frame::new(ROOT), steps);
         let mut first = found;
-        for x in 1..self.count {
-            first = self.judge_placed(mem, x, first, steps);
+        for y in 0..self.count {
+            first = self.judge_children(mem, y, first, steps);
         }
         first
     }

@@ -14,19 +14,21 @@
 //!
 //! - Reading goes over the words of a frame once as an MMU table and once as a first shadow, for any number of nodes
 //!   that share it.
-//! - Each part loads two nodes for each node at most, itself and its parent, and goes through their rows: at most 32
-//!   tests of a block for each of 1024 tables, and the words of the blocks that aren't empty.
-//! - Parts 1, 4 and 6 and second shadows look at a node's parent once for each node. Part 5 and first shadows look at
-//!   the parents of all nodes for each node, but only where few are left: part 5 comes after part 4 and ends with the
-//!   first node whose children share a page, and the nodes before that one have at least five pages each that are no
-//!   other's. So these are F² / 5 looks at most. First shadows are compared in sound trees alone: F² / 25 looks.
+//! - The children of each node are found once, when all nodes were read.
+//! - Each part loads a node twice at most, once by itself and once as the parent of its children, and goes through its
+//!   rows: at most 32 tests of a block for each of 1024 tables, and the words of the blocks that aren't empty. Loading
+//!   one takes a step for each slot, each word of its MMU directory and each frame of the memory.
+//!
+//! So no part looks at one node because of another that isn't its parent or its child.
 #![tactic(auto)]
 
 mod auditor;
 mod blocks;
 mod boot;
 mod compare;
+mod each_child;
 mod each_node;
+mod family;
 mod frame_set;
 mod frame_words;
 mod given;

@@ -6,16 +6,16 @@ ghost use Rattle.pip_model.specs.Tree.{held_pages, page_at, pairs, vpage};
 ghost use Rattle.std.specs.List.{list_all};
 ghost use Rattle.pip_model.specs.Parts.{broken_part, gives_no_more, has_no_lines, has_tables, is_lent_by};
 ghost use Rattle.pip_model.specs.Parts.{is_named_by_base, is_page, keeps_pages_apart, part_boot_root};
-ghost use Rattle.pip_model.specs.Parts.{part_parents_come_first};
 ghost use Rattle.pip_audit.specs.Comparing.{tree_in};
-ghost use Rattle.pip_audit.specs.Judging.{HasParent, IsReadLater, KeepsBefore, KeepsNodes, Lends, TellsApart, held_by};
-ghost use Rattle.pip_audit.specs.Judging.{is_placed, keeps_to, parent_test};
+ghost use Rattle.pip_audit.specs.Judging.{IsReadLater, KeepsBefore, KeepsNodes, Lends, TellsApart, TellsChildren};
+ghost use Rattle.pip_audit.specs.Judging.{is_placed, keeps_to};
 ghost use Rattle.pip_audit.specs.FrameSets.{are_fresh, contains, with_all};
 ghost use Rattle.pip_audit.specs.Tables.{IsOf};
 ghost use Rattle.pip_audit.specs.Reading.{IsRead};
 
 use crate::auditor::Auditor;
 use crate::boot::{has_boot_base, has_boot_rows, has_boot_tables};
+use crate::each_child::ChildTest;
 use crate::each_node::NodeTest;
 use crate::pages::{count_pages, page};
 use pip_base::{Frame, LINES, Steps};
@@ -62,24 +62,6 @@ impl Auditor {
         ensures { result ≡ word_at (M.memory mem.now) (slice_index self.now.names.items x) 11 }
     {
         mem.word(self.name(mem, x), PARENT, steps)
-    }
-
-    // The parent of node `x`, a node that was read.
-    pub(crate) fn parent<M: Frames, L: Ledger>(
-        &self,
-        mem: &M,
-        x: usize,
-        steps: &mut Steps<L>,
-    ) -> Frame
-        requires read { IsRead (M.memory mem.now) self.now }
-        requires parents { part_parents_come_first (tree_in (M.memory mem.now)) ≡ true }
-        requires other { 1 ≤ x }
-        requires node { x < self.now.count }
-        ensures parent { result ≡ word_at (M.memory mem.now) (slice_index self.now.names.items x) 11 }
-        ensures inside { result < length (M.memory mem.now) }
-        ensures passes { node_stop (M.memory mem.now) result ≡ None }
-    {
-        Frame::new(self.up(mem, x, steps))
     }
 
     // Whether the root is that of the boot.
@@ -174,8 +156,13 @@ impl Auditor {
         true
     }
 
-    // Loads a node, the set of the pages of its rows, and the rights that these give to each page.
-    fn load_parent<M: Frames, L: Ledger>(&mut self, mem: &M, part: Frame, steps: &mut Steps<L>)
+    /// Loads a node, the set of the pages of its rows, and the rights that these give to each page.
+    pub(crate) fn load_parent<M: Frames, L: Ledger>(
+        &mut self,
+        mem: &M,
+        part: Frame,
+        steps: &mut Steps<L>,
+    )
         requires read { IsRead (M.memory mem.now) self.old }
         requires part { part < length (M.memory mem.now) }
         requires passes { node_stop (M.memory mem.now) part ≡ None }
@@ -193,26 +180,6 @@ impl Auditor {
         self.words
             .rights
             .gather_rights(&self.node, mem, &self.blocks, steps);
-    }
-
-    // Loads the parent of node `x`, unless it is loaded.
-    fn lend_to<M: Frames, L: Ledger>(&mut self, mem: &M, x: usize, steps: &mut Steps<L>)
-        requires read { IsRead (M.memory mem.now) self.old }
-        requires parents { part_parents_come_first (tree_in (M.memory mem.now)) ≡ true }
-        requires other { 1 ≤ x }
-        requires node { x < self.old.count }
-        requires lends { Lends (M.memory mem.now) self.old }
-        ensures lends { Lends (M.memory mem.now) self.new }
-        ensures part { self.new.node.part ≡ word_at (M.memory mem.now) (slice_index self.old.names.items x) 11 }
-        ensures read { IsRead (M.memory mem.now) self.new }
-        ensures keeps { KeepsNodes self.old self.new }
-    {
-        let parent = self.parent(mem, x, steps);
-        let loaded = self.node.part();
-        if loaded.number() == parent.number() {
-            return;
-        }
-        self.load_parent(mem, parent, steps);
     }
 
     // Whether all that node `x` holds is in rows of the node that is loaded.
@@ -235,34 +202,7 @@ impl Auditor {
             .all_rows(mem, &self.blocks, steps, |row| lent.contains(row.frame))
     }
 
-    // ---- siblings are apart
-
-    // Meets what node `x` holds, if it is a child of this parent.
-    fn meet_child<M: Frames, L: Ledger>(
-        &mut self,
-        mem: &M,
-        x: usize,
-        parent: Frame,
-        steps: &mut Steps<L>,
-    ) -> bool
-        requires read { IsRead (M.memory mem.now) self.old }
-        requires node { x < self.old.count }
-        ensures fresh { result ≡ are_fresh (contains self.old.sets.met)
-            (held_by (M.memory mem.now) parent (slice_index self.old.names.items x)) }
-        ensures met { result ≡ true → (f : ℕ) → contains self.new.sets.met f ≡ with_all (contains self.old.sets.met)
-            (held_by (M.memory mem.now) parent (slice_index self.old.names.items x)) f }
-        ensures read { IsRead (M.memory mem.now) self.new }
-        ensures keeps { KeepsNodes self.old self.new }
-    {
-        let up = self.up(mem, x, steps);
-        if up != parent.number() {
-            return true;
-        }
-        self.meet_held(mem, x, steps)
-    }
-
-    // Whether the tree that was read keeps to a part of soundness, where it keeps to those before. A parent is loaded
-    // once for all children that were read one after the other.
+    // Whether the tree that was read keeps to a part of soundness, where it keeps to those before.
     fn keeps_to<M: Frames, L: Ledger>(&mut self, mem: &M, part: u32, steps: &mut Steps<L>) -> bool
         requires read { IsRead (M.memory mem.now) self.old }
         requires part { 1 ≤ part }
@@ -278,15 +218,11 @@ impl Auditor {
             BOOT_ROOT => self.has_boot_root(mem, steps),
             PAGES_APART => self.each_node::<IsApart, M, L>(mem, 0, steps),
             LENT => {
-                self.load_parent(mem, Frame::new(ROOT), steps);
-                self.each_node::<IsLent, M, L>(mem, 1, steps)
+                self.each_node::<LendsToChildren, M, L>(mem, 0, steps)
                     && self.each_node::<IsNamed, M, L>(mem, 1, steps)
             }
             SIBLINGS_APART => self.each_node::<HasChildrenApart, M, L>(mem, 0, steps),
-            RIGHTS => {
-                self.load_parent(mem, Frame::new(ROOT), steps);
-                self.each_node::<IsGranted, M, L>(mem, 1, steps)
-            }
+            RIGHTS => self.each_node::<GrantsToChildren, M, L>(mem, 0, steps),
             TABLES_OF_ROWS => self.each_node::<HasTables, M, L>(mem, 0, steps),
             _ => self.each_node::<HasNoLines, M, L>(mem, 1, steps),
         }
@@ -343,17 +279,14 @@ impl NodeTest for IsApart {
     }
 }
 
-/// Whether all that it holds is in rows of its parent.
-pub(crate) struct IsLent;
+/// Whether all that each of its children holds is in its rows.
+pub(crate) struct LendsToChildren;
 
-impl NodeTest for IsLent {
-    ghost needs = { λ m a x. HasParent m a x };
-
-    ghost says = { λ m names _ x z. z ≡ parent_test is_lent_by m names x };
+impl NodeTest for LendsToChildren {
+    ghost says = { λ m names count y z. TellsChildren is_lent_by m names count y z };
 
     fn at<M: Frames, L: Ledger>(a: &mut Auditor, mem: &M, x: usize, steps: &mut Steps<L>) -> bool {
-        a.lend_to(mem, x, steps);
-        a.is_lent_by(mem, x, steps)
+        a.each_child::<IsLent, M, L>(mem, x, steps)
     }
 }
 
@@ -377,32 +310,26 @@ impl NodeTest for HasChildrenApart {
 
     fn at<M: Frames, L: Ledger>(a: &mut Auditor, mem: &M, x: usize, steps: &mut Steps<L>) -> bool {
         let parent = a.name(mem, x);
+        let mut next = a.first_child(mem, parent);
         a.sets.met.clear();
-        for k in 1..a.count {
-            if !a.meet_child(mem, k, parent, steps) {
+        while let Some(k) = next {
+            if !a.meet_held(mem, k, steps) {
                 return false;
             }
+            next = a.next_child_after(mem, k);
         }
         true
     }
 }
 
-/// Whether it has no right to a page that its parent lacks. A row that can't be read has stopped the reading.
-pub(crate) struct IsGranted;
+/// Whether none of its children has a right to a page that it lacks. A row that can't be read has stopped the reading.
+pub(crate) struct GrantsToChildren;
 
-impl NodeTest for IsGranted {
-    ghost needs = { λ m a x. HasParent m a x };
-
-    ghost says = { λ m names _ x z. z ≡ parent_test gives_no_more m names x };
+impl NodeTest for GrantsToChildren {
+    ghost says = { λ m names count y z. TellsChildren gives_no_more m names count y z };
 
     fn at<M: Frames, L: Ledger>(a: &mut Auditor, mem: &M, x: usize, steps: &mut Steps<L>) -> bool {
-        a.lend_to(mem, x, steps);
-        let part = a.name(mem, x);
-        a.child.load(mem, part, steps);
-        let rights = &a.words.rights;
-        a.child.all_rows(mem, &a.blocks, steps, |row| {
-            rights.gives(row.frame, row.rights)
-        })
+        a.each_child::<IsGranted, M, L>(mem, x, steps)
     }
 }
 
@@ -430,5 +357,34 @@ impl NodeTest for HasNoLines {
 
     fn at<M: Frames, L: Ledger>(a: &mut Auditor, mem: &M, x: usize, steps: &mut Steps<L>) -> bool {
         mem.word(a.name(mem, x), PENDING, steps) % (1 << LINES) == 0
+    }
+}
+
+// ---- the tests of a child
+
+/// Whether all that it holds is in rows of its parent.
+pub(crate) struct IsLent;
+
+impl ChildTest for IsLent {
+    ghost holds = { λ y x. is_lent_by y x };
+
+    fn at<M: Frames, L: Ledger>(a: &mut Auditor, mem: &M, x: usize, steps: &mut Steps<L>) -> bool {
+        a.is_lent_by(mem, x, steps)
+    }
+}
+
+/// Whether it has no right to a page that its parent lacks.
+pub(crate) struct IsGranted;
+
+impl ChildTest for IsGranted {
+    ghost holds = { λ y x. gives_no_more y x };
+
+    fn at<M: Frames, L: Ledger>(a: &mut Auditor, mem: &M, x: usize, steps: &mut Steps<L>) -> bool {
+        let part = a.name(mem, x);
+        a.child.load(mem, part, steps);
+        let rights = &a.words.rights;
+        a.child.all_rows(mem, &a.blocks, steps, |row| {
+            rights.gives(row.frame, row.rights)
+        })
     }
 }

@@ -4,6 +4,7 @@ ghost use Rattle.std.specs.Prelude.{is_some, IfOk, None, Some, length};
 ghost use Rattle.pip_base.specs.Memory.{word_at};
 ghost use Rattle.pip_base.specs.Words.{directory_word};
 ghost use Rattle.pip_audit.specs.Blocks.{AreKnown};
+ghost use Rattle.pip_audit.specs.declared.tables.SoughtRows.TheVariants.{Child};
 ghost use Rattle.pip_audit.specs.Tables.{HasPlaces, HasTableRoom, IsFirstRow, IsFirstSought, IsNextLeft, IsOf};
 ghost use Rattle.pip_audit.specs.Tables.{IsReady, IsRowAt, IsSoughtAt, TellsRows, directory_in, held_at, place_held};
 ghost use Rattle.pip_audit.specs.Tables.{row_seen, row_sought, tables_in, triple_with};
@@ -412,6 +413,26 @@ impl Tables {
             v = v / 32 * 32 + 32;
         }
         None
+    }
+
+    /// The first row of a child of a table from an index on. A table that is known to have none isn't gone through.
+    pub(crate) fn next_child_in<M: Frames, L: Ledger>(
+        &self,
+        mem: &M,
+        blocks: &Blocks,
+        from: u32,
+        steps: &mut Steps<L>,
+    ) -> Option<FoundRow>
+        requires of { IsOf (M.memory mem.now) self.now }
+        requires known { AreKnown (M.memory mem.now) blocks.now }
+        requires small { from < 2 ^ 20 }
+        ensures { IsFirstSought Child (M.memory mem.now) (tables_in (M.memory mem.now) self.now.part) from
+            (1024 * (from / 1024) + 1024) result }
+    {
+        match self.at(from / WORDS) {
+            Some(tables) if blocks.lacks_children(tables) => None,
+            _ => self.next_in_table(mem, blocks, SoughtRows::Child, from, steps),
+        }
     }
 
     // The first row of a directory index from an index of its table on. There is none if it has no tables.

@@ -11,7 +11,7 @@ ghost use Rattle.pip_model.specs.declared.reading.Stop.{Stop};
 ghost use Rattle.pip_model.specs.ReadOff.{Halts, tree_of};
 
 use crate::auditor::Auditor;
-use crate::tables::{FoundRow, SoughtRows, Triple};
+use crate::tables::{FoundRow, Triple};
 use pip_base::{Frame, Steps, VPAGES, WORDS};
 use pip_frames::Frames;
 use pip_model::{ROOT, Stop};
@@ -151,10 +151,7 @@ impl Auditor {
             return None;
         }
         self.blocks.learn_descriptors(mem, tables.shadow1, steps);
-        if let Some(row) = self
-            .node
-            .next_in_table(mem, &self.blocks, SoughtRows::Child, from, steps)
-        {
+        if let Some(row) = self.node.next_child_in(mem, &self.blocks, from, steps) {
             return Some(child_of(row, tables.shadow1));
         }
         if from % WORDS == 0 {
@@ -245,6 +242,7 @@ impl Auditor {
                 self.depth -= 1;
             }
         }
+        self.find_children(mem, steps);
         None
     }
 }

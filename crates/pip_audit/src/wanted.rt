@@ -111,6 +111,23 @@ fn list_word<M: Frames, L: Ledger>(
     }
 }
 
+// Whether block `b` of list page `k` comes after the last slot.
+fn lacks_slots<M: Frames, L: Ledger>(
+    mem: &M,
+    part: Frame,
+    k: u32,
+    b: u32,
+    steps: &mut Steps<L>,
+) -> bool
+    requires part { part < length (M.memory mem.now) }
+    requires few { k < 1024 }
+    requires block { b < 32 }
+    ensures { result ≡ true → (i : ℕ) → i < 32 → list_word (node_read (M.memory mem.now) part) k (32 * b + i) ≡ 0 }
+{
+    let count = mem.word(part, TABLES, steps);
+    b > 0 && SLOTS * k + (32 * b - FIRST_SLOT) / SLOT_WORDS >= count
+}
+
 impl Auditor {
     // Word `i` of the node's directory of a level.
     fn directory_word(&self, level: Level, i: u32) -> u32
@@ -224,7 +241,9 @@ impl Auditor {
                 None => true,
                 Some(tables) => is_zero_block(mem.frame(tables.mmu, steps), b),
             },
-            _ => false,
+            Role::Descriptor => b > 0,
+            Role::List(k) => lacks_slots(mem, self.node.part(), k, b, steps),
+            Role::Nothing => true,
         }
     }
 

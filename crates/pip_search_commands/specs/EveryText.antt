@@ -91,13 +91,13 @@ comes_text cpus lines labels said = flat_map (λ p. coming_line cpus lines p.0 p
 -- ---- whether all that is outside looks away
 
 -- the processor, which ends the line
-abbrev pub seen_by : ℕ → List ℕ
-seen_by cpu = codes " : " ++ decimal cpu ++ codes "\n"
+abbrev pub on_processor : ℕ → List ℕ
+on_processor cpu = codes " : " ++ decimal cpu ++ codes "\n"
 
 -- after which way what a processor does sees a word that is left out
 abbrev pub seen_words : ℕ → List ℕ → List Run → ℕ → List ℕ
 seen_words cpus lines way cpu =
-    (codes "away no" ++ flat_map (spaced_run cpus lines) way) ++ seen_by cpu
+    (codes "away no" ++ flat_map (spaced_run cpus lines) way) ++ on_processor cpu
 
 -- the line that says it
 abbrev pub away_words : ℕ → List ℕ → Away → List ℕ

@@ -1,7 +1,7 @@
 //! What is said of whether all that is outside looks away.
 ghost use Rattle.std.specs.Prelude.{◌≤◌};
 ghost use Rattle.pip_io.specs.Writes.{Writes};
-ghost use Rattle.pip_search_commands.specs.EveryText.{away_text, away_words, seen_by, seen_words};
+ghost use Rattle.pip_search_commands.specs.EveryText.{away_text, away_words, on_processor, seen_words};
 
 use super::comes::write_runs;
 use arrayvec::ArrayString;
@@ -55,7 +55,7 @@ fn write_seen<K: Sink>(
 
 // Writes the processor, which ends the line.
 fn write_processor<K: Sink>(sink: &mut K, cpu: u32) -> Result<(), Failed>
-    ensures { Writes K.history sink.old sink.new result (seen_by cpu) }
+    ensures { Writes K.history sink.old sink.new result (on_processor cpu) }
 {
     let mut words: ArrayString<16> = ArrayString::new();
     words.push_str(" : ");

@@ -47,14 +47,14 @@ returns-then-from-eq0-clause-first g c = λ v lo hi.
     let m = g.M.Frames.memory c.args.mem.now in
     let ts = tables_in m c.args.self.now.node.part in
     no_child m ts v (subst (IsFirstSought S.Child m ts c.args.from (1024 * (c.args.from / 1024) + 1024)) c.in_default.is
-    c.next_in_table.ensures v lo hi)
+    c.next_child_in.ensures v lo hi)
 
 pub returns-else-from-eq0-clause-first : goal.returns-else-from-eq0-clause-first
 returns-else-from-eq0-clause-first g c = λ v lo hi.
     let m = g.M.Frames.memory c.args.mem.now in
     let ts = tables_in m c.args.self.now.node.part in
     no_child m ts v (subst (IsFirstSought S.Child m ts c.args.from (1024 * (c.args.from / 1024) + 1024)) c.in_default.is
-    c.next_in_table.ensures v lo hi)
+    c.next_child_in.ensures v lo hi)
 
 pub returns-then-from-eq0-clause-quiet : goal.returns-then-from-eq0-clause-quiet
 returns-then-from-eq0-clause-quiet g c = λ t s q.
@@ -67,7 +67,7 @@ returns-then-from-eq0-clause-quiet g c = λ t s q.
     let small = c.requires.small in
     let of = c.requires.of.of (c.args.from / 1024) (omega (arith, small)) in
     let none = subst (IsFirstSought S.Child m ts c.args.from (1024 * (c.args.from / 1024) + 1024)) c.in_default.is
-    c.next_in_table.ensures in
+    c.next_child_in.ensures in
     let quiet = none_quiet m ts c.args.from b c.if-from-eq0.true (sym of ∙ c.requires.tables)
     (λ v lo hi. no_child m ts v (none v lo hi)) in
     let words = c.hold.ensures.words t in

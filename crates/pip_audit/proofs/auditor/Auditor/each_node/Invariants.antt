@@ -9,7 +9,6 @@ invariant-loop-x g l = record {
   read : IsRead (g.M.Frames.memory l.mem) l.self;
   keeps : KeepsNodes l.fn.self l.self;
   from : l.from ≤ l.x;
-  needs : g.T.NodeTest.needs (g.M.Frames.memory l.mem) l.self l.x;
   says : (k : ℕ) → l.from ≤ k → k < l.x
       → g.T.NodeTest.says (g.M.Frames.memory l.mem) l.fn.self.names.items l.fn.self.count k true;
 }

@@ -47,8 +47,8 @@ returns-then-each_node-2-clause-keeps g c =
     let named = c.each_node-then-each_node-2 in
     let one = c.requires.before 1 (omega arith) (omega arith) in
     part_lent_both (tree_in m) named.result
-    (sym c.if-each_node-2.true ∙ lent_told m c.load_parent.new.self c.load_parent.ensures.read lent.result one
-    lent.ensures.each) (named_told m lent.new.self lent.ensures.read named.result named.ensures.each)
+    (sym c.if-each_node-2.true ∙ lent_told m c.args.self.now c.requires.read lent.result one lent.ensures.each)
+    (named_told m lent.new.self lent.ensures.read named.result named.ensures.each)
     ∙ ap (λ k. keeps_to k (tree_in m)) (sym c.in-4.is)
 
 pub returns-else-each_node-2-clause-keeps : goal.returns-else-each_node-2-clause-keeps
@@ -58,8 +58,7 @@ returns-else-each_node-2-clause-keeps g c =
     let one = c.requires.before 1 (omega arith) (omega arith) in
     c.if-each_node-2.false
     ∙ part_lent_not (tree_in m) (sym c.if-each_node-2.false
-    ∙ lent_told m c.load_parent.new.self c.load_parent.ensures.read
-    lent.result one lent.ensures.each)
+    ∙ lent_told m c.args.self.now c.requires.read lent.result one lent.ensures.each)
     ∙ ap (λ k. keeps_to k (tree_in m)) (sym c.in-4.is)
 
 pub returns-in-5-clause-keeps : goal.returns-in-5-clause-keeps
@@ -73,7 +72,7 @@ returns-in-5-clause-keeps g c =
 pub returns-in-6-clause-keeps : goal.returns-in-6-clause-keeps
 returns-in-6-clause-keeps g c =
     let m = g.M.Frames.memory c.args.mem.now in
-    part_rights_told m c.load_parent-in-6.new.self c.load_parent-in-6.ensures.read c.each_node-in-6.result
+    part_rights_told m c.args.self.now c.requires.read c.each_node-in-6.result
     (c.requires.before 1 (omega arith) (omega arith)) c.each_node-in-6.ensures.each
     ∙ ap (λ k. keeps_to k (tree_in m)) (sym c.in-6.is)
 

@@ -1,4 +1,5 @@
-use Rattle.std.proofs.Common.{◌≡◌, ◌+◌, ◌*◌, ◌/◌, ◌%◌, ◌<◌, sym, ap, ◌∙◌, subst, arith, get_or, None, Some}
+use Rattle.std.proofs.Common.{◌≡◌, ◌+◌, ◌*◌, ◌/◌, ◌%◌, ◌<◌, refl, ltb-true}
+use Rattle.std.proofs.Common.{sym, ap, ◌∙◌, subst, arith, get_or, None, Some}
 use Rattle.std.specs.Prelude.{option_map}
 use Rattle.pip_base.specs.Memory.{frame_at, word_at}
 use Rattle.pip_model.specs.FullRows.{cells_of, row_word}
@@ -7,7 +8,11 @@ use Rattle.pip_model.specs.Tree.{table_at}
 use Rattle.pip_model.proofs.Nodes.Reads.{row_word-none}
 use Rattle.pip_audit.specs.Comparing.{FitsRole, entry_held, role_of, row_held, rows_held, wanted_word}
 use Rattle.pip_audit.specs.Tables.{tables_in, triple_of}
-use Rattle.pip_audit.proofs.PageWords.{directory_role, entry_is, table_role}
+use Rattle.pip_audit.proofs.Loads.{passes}
+use Rattle.pip_model.specs.NodeWords.{list_word}
+use Rattle.pip_model.specs.Tree.{lists}
+use Rattle.pip_audit.proofs.PageWords.{descriptor_role, directory_role, entry_is}
+use Rattle.pip_audit.proofs.PageWords.{list_role, no_descriptor_word, table_role}
 use Rattle.pip_audit.proofs.Rows.{no_row, no_word, row_by_word}
 use Rattle.pip_audit.proofs.auditor.Auditor.wants_zeros.Goals as goal
 
@@ -70,3 +75,33 @@ returns-in-Some g c on i below =
     ∙ ap (λ o. row_word level (option_map (row_held a) o))
     (row_by_word m ts v b some ∙ no_word v (word_at m b.mmu (v % 1024)) zero)
     ∙ row_word-none level
+
+pub returns-in-Descriptor : goal.returns-in-Descriptor
+returns-in-Descriptor g c on i below =
+    let m = g.M.Frames.memory c.args.mem.now in
+    let a = c.args.self.now in
+    let x = node_read m a.node.part in
+    let k = 32 * c.args.b + i in
+    ap (λ r. wanted_word m a (role_of r) k) c.in-Descriptor.is
+    ∙ descriptor_role x (cells_of (rows_held m a)) k
+    ∙ no_descriptor_word x k (let some = ltb-true 0 c.args.b on in omega (arith, some))
+
+pub returns-in-List : goal.returns-in-List
+returns-in-List g c on i below =
+    let m = g.M.Frames.memory c.args.mem.now in
+    let a = c.args.self.now in
+    let x = node_read m a.node.part in
+    let k = 32 * c.args.b + i in
+    ap (λ r. wanted_word m a (role_of r) k) c.in-List.is
+    ∙ list_role x (cells_of (rows_held m a)) c.in-List.k k
+    ∙ ap (λ p. list_word (node_read m p) c.in-List.k k) (sym c.part.ensures)
+    ∙ c.lacks_slots.ensures on i below
+
+pub lacks_slots-requires-clause-few : goal.lacks_slots-requires-clause-few
+lacks_slots-requires-clause-few g c =
+    let m = g.M.Frames.memory c.args.mem.now in
+    let part = c.args.self.now.node.part in
+    let page : c.in-List.k < lists (word_at m part 12) =
+    subst (λ r. FitsRole m part (role_of r)) c.in-List.is c.requires.fits in
+    let few = (passes m part (word_at m part 12) refl c.requires.holds.of.passes).few in
+    omega (arith, few, page)
