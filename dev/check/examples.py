@@ -12,7 +12,7 @@ from reference import commands as reference
 from .running import REPOSITORY, Differs, contents, expect, paths, run, text_of, told_path
 
 SESSIONS = os.path.join("examples", "sessions")
-PROVED = os.path.join("crates", "pip_test_model", "proofs", "Scripts.antt")
+PROVED = os.path.join("crates", "pip_test_tables", "proofs", "Scripts.antt")
 LEMMA = re.compile(r"^(\w+) : script_text \((.*?)\)\s*≡ \((.*?)\)\nunfolding", re.M | re.S)
 
 

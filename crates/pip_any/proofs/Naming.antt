@@ -20,14 +20,14 @@ use Rattle.pip_model.specs.Run.{raises, schedule, step, steps}
 use Rattle.pip_model.specs.Turn.{turn, world_of}
 use Rattle.pip_model.specs.Worlds.{World, runs_on}
 use Rattle.pip_model.proofs.OnLists.Acts.{after-append, after-events, text-append, text-raises}
-use Rattle.pip_hostile.specs.Hostile.{HasChoice, RunsHostile, TurnKeepsToMenu, TurnStaysInside}
-use Rattle.pip_hostile.proofs.Choosing.{nobody_hostile, turns_have_choices}
-use Rattle.pip_hostile.proofs.Keeping.{confined_keeps_to_menu}
+use Rattle.pip_any.specs.Hostile.{HasChoice, RunsHostile, TurnKeepsToMenu, TurnStaysInside}
+use Rattle.pip_any.proofs.Choosing.{nobody_hostile, turns_have_choices}
+use Rattle.pip_any.proofs.Keeping.{confined_keeps_to_menu}
 use Rattle.pip_outside.specs.Exits.{IsConfined}
 use Rattle.pip_outside.proofs.Alikes.{alike_back}
 use Rattle.pip_outside.proofs.Confined.{confined_alike}
 use Rattle.pip_model.specs.declared.processors.Occupant.{Occupant}
-use Rattle.pip_hostile.proofs.Doing.{name_alike, root_alike}
+use Rattle.pip_any.proofs.Doing.{name_alike, root_alike}
 use Rattle.pip_outside.specs.Outside.{Alike}
 use Rattle.pip_search.specs.Reached.{AreChoices, IsCovered}
 use Rattle.pip_search.specs.Summary.{IsTold, Witness}

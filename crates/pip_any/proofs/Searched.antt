@@ -17,10 +17,10 @@ use Rattle.pip_command_contracts.specs.EndsBy.{Response, plainly}
 use Rattle.pip_every.specs.Away.{IsAwaySaid}
 use Rattle.pip_every.specs.Menus.{Menu, menu_model, name_on}
 use Rattle.pip_every.specs.Moments.{Moment}
-use Rattle.pip_hostile.specs.Passing.{HasPassed}
+use Rattle.pip_any.specs.Passing.{HasPassed}
 use Rattle.pip_every.specs.declared.away.Away.TheVariants.{Yes}
-use Rattle.pip_hostile.specs.Tests.{IsPassed}
-use Rattle.pip_hostile.proofs.Testing.{states_pass, tests_pass}
+use Rattle.pip_any.specs.Tests.{IsPassed}
+use Rattle.pip_any.proofs.Testing.{states_pass, tests_pass}
 use Rattle.pip_search.specs.Reached.{AreChoices, IsCovered}
 use Rattle.pip_search.specs.Summary.{IsAmong}
 use Rattle.pip_search.specs.Systems.{after_choices}

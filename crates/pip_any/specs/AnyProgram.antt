@@ -7,7 +7,7 @@ use Rattle.pip_base.specs.declared.types.Plan.{Plan}
 use Rattle.pip_every.specs.Menus.{Menu, menu_model}
 use Rattle.pip_every.specs.Moments.{Moment}
 use Rattle.pip_every.specs.Away.{looks_away}
-use Rattle.pip_hostile.specs.Passing.{passes}
+use Rattle.pip_any.specs.Passing.{passes}
 use Rattle.pip_command_contracts.specs.EndsBy.{Response, plainly}
 use Rattle.pip_command_contracts.specs.Planned.{lines_planned}
 use Rattle.pip_model.specs.Acts.{text_of}

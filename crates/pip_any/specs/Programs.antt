@@ -4,7 +4,7 @@ use Rattle.pip_base.specs.Memory.{Memory}
 use Rattle.pip_base.specs.declared.types.Plan.{Plan}
 use Rattle.pip_every.specs.Menus.{Menu, menu_model, name_on}
 use Rattle.pip_every.specs.Moments.{Moment}
-use Rattle.pip_hostile.specs.Hostile.{LooksAway, RunsHostile, TurnExitsByMenu, TurnKeepsToMenu, TurnStaysInside}
+use Rattle.pip_any.specs.Hostile.{LooksAway, RunsHostile, TurnExitsByMenu, TurnKeepsToMenu, TurnStaysInside}
 use Rattle.pip_model.specs.Acts.{after_acts, text_of}
 use Rattle.pip_model.specs.Lists.{In}
 use Rattle.pip_model.specs.Run.{raises, schedule, step, steps}

@@ -1,11 +1,40 @@
-//! What `against` says of every program of a partition: docs/GUARANTEES.md, "Children that do anything". The functions
-//! here compute nothing: each is a law, which its contract says.
+//! What a search with a menu says of every program of its hostile partitions: docs/GUARANTEES.md, "Children that do
+//! anything". The functions here compute nothing: each is a law, which its contract says.
 #![tactic(auto)]
 
 ghost use Rattle.pip_any.specs.AnyProgram.{AnyProgramFromStart, AnyProgramIsNamed, AwayTextsNamePrograms};
 ghost use Rattle.pip_any.specs.AnyProgram.{PassedNamesAnyProgram, TestedNamesAnyProgram};
 ghost use Rattle.pip_any.specs.Begins.{ImagesLookAlike, StepsDependOnOutside};
+ghost use Rattle.pip_any.specs.Hostile.{CallsAreOnMenu, ConfinedKeepsToMenu, FetchFaultsAreOnMenu};
+ghost use Rattle.pip_any.specs.Hostile.{LoadFaultsAreOnMenu, MasksReadNone, StoreFaultsAreOnMenu, StoresAreOnMenu};
+ghost use Rattle.pip_any.specs.Hostile.{TrapsAreOnMenu, TurnsHaveChoices, UntakenAreOnMenu, YieldsAreOnMenu};
+ghost use Rattle.pip_any.specs.Hostile.{YieldsReadThree};
+ghost use Rattle.pip_any.specs.Passing.{StatesPass};
 ghost use Rattle.pip_any.specs.Programs.{ConfinedProgramsAreNamed, ProgramsAreNamed};
+ghost use Rattle.pip_any.specs.Tests.{TestsPass};
+
+/// Each turn of a world has a choice at a moment that looks like this world: it shows the same, or the turn stays
+/// inside a partition of the menu.
+pub fn law_hostile()
+    ensures turns { TurnsHaveChoices }
+    ensures confined { ConfinedKeepsToMenu }
+    ensures tested { TestsPass }
+    ensures passed { StatesPass }
+{}
+
+/// Which events are on a menu.
+pub fn law_menus()
+    ensures traps { TrapsAreOnMenu }
+    ensures untaken { UntakenAreOnMenu }
+    ensures loads { LoadFaultsAreOnMenu }
+    ensures stores { StoreFaultsAreOnMenu }
+    ensures fetches { FetchFaultsAreOnMenu }
+    ensures calls { CallsAreOnMenu }
+    ensures yields { YieldsReadThree }
+    ensures masks { MasksReadNone }
+    ensures saves { YieldsAreOnMenu }
+    ensures words { StoresAreOnMenu }
+{}
 
 /// A search with a menu that closed names each line of a run whose hostile partitions have other programs, but for what
 /// stays inside them; and where such runs begin.

@@ -1,1 +1,5 @@
 pub mod Booted
+pub mod Events
+pub mod Worlds
+pub mod Laws
+mod Matched

@@ -1,4 +1,4 @@
-//! Tests of the lab's commands that are no commands of certificates, and of its words.
+//! Tests of the lab's commands and of its words; of certificates lines that are read, and merges of a few of them, too.
 #![tactic(auto)]
 
 #[cfg(test)]
@@ -6,9 +6,19 @@ mod against;
 #[cfg(test)]
 mod apart;
 #[cfg(test)]
+mod compare;
+#[cfg(test)]
 mod ends;
 #[cfg(test)]
 mod every;
+#[cfg(test)]
+mod lines;
+#[cfg(test)]
+mod merge;
+#[cfg(test)]
+mod merges;
+#[cfg(test)]
+mod part;
 #[cfg(test)]
 mod slots;
 #[cfg(test)]

@@ -1,5 +1,5 @@
 //! Tests of the public calls of pip_base, pip_entry, pip_frames, pip_table, pip_config and pip_tlb, and of the rows of
-//! pip_space.
+//! pip_space; and worked examples of the model, each computed from its definitions by a lemma of proofs/.
 #![tactic(auto)]
 
 #[cfg(test)]

@@ -1,3 +1,0 @@
-pub mod Hostile
-pub mod Tests
-pub mod Passing

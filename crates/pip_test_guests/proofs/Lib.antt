@@ -1,4 +1,0 @@
-pub mod Events
-pub mod Worlds
-pub mod Laws
-mod Matched

@@ -1,5 +1,0 @@
-use Rattle.pip_test_guests.proofs.Events.{booted_zeros}
-use Rattle.pip_test_guests.proofs.tests.booted.Goals as goal
-
-pub returns : goal.returns
-returns g c = record { booted = booted_zeros _ _ c.in_ok-mem.ensures c.boot_zeros.ensures.layout }
