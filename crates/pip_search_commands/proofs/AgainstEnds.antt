@@ -1,15 +1,14 @@
 -- How `against` ends. The streams go from a to b in the image, and to c in what comes after it.
-use Rattle.std.proofs.Common.{◌≡◌, ◌≢◌, ℕ, inl, inr, Option, None, Some, List, [], ◌++◌, refl, sym, ap, ◌∙◌, subst}
+use Rattle.std.proofs.Common.{◌≡◌, ◌≢◌, ℕ, inl, inr, Option, None, Some, List, [], ◌++◌, refl, sym, subst}
 use Rattle.std.proofs.Common.{arith}
 use Rattle.std.proofs.Common.{append-nil}
-use Rattle.std.specs.Prelude.{MatchOption, option_map}
+use Rattle.std.specs.Prelude.{MatchOption}
 use Rattle.std.specs.Io.KnownBytes.{Consumes}
 use Rattle.std.proofs.KnownBytes.{Consumes-trans}
 use Rattle.pip_base.specs.Memory.{Memory}
 use Rattle.pip_image.specs.Reading.{IsFault, IsFaultWithin, RefusesAfter}
 use Rattle.pip_image.specs.declared.header.Header.{Header}
 use Rattle.pip_image.proofs.Steps.{after_fault}
-use Rattle.pip_io.specs.Causes.{RoseByOne}
 use Rattle.pip_io.specs.Pacing.{MayRead}
 use Rattle.pip_io.specs.Taken.{Keeps}
 use Rattle.pip_io.specs.Histories.{Writing, writing}
@@ -18,12 +17,12 @@ use Rattle.pip_model.specs.Images.{Part, image_parts}
 use Rattle.pip_model.specs.declared.image.ImageError.{ImageError}
 use Rattle.pip_switch.specs.Standing.{State}
 use Rattle.pip_command_contracts.specs.ImageDues.{BeginsImage}
-use Rattle.pip_search_commands.specs.SearchDues.{IsMenuAnswer, IsSearchedAgainst, against_due}
+use Rattle.pip_search_commands.specs.SearchDues.{IsSearchedAgainst, against_due}
 use Rattle.pip_command_contracts.specs.EndsBy.{Due, EndsBy, IsAnswered, plainly}
 use Rattle.pip_command_contracts.specs.Faults.{image_line}
 use Rattle.pip_command_contracts.specs.Loading.{IsStopInside, LoadsFront, StoppedLoading}
 use Rattle.pip_search_commands.specs.MenuReading.{BeginsMenu, StopsMenu, TakesBadLine, TakesMenu}
-use Rattle.pip_search_commands.specs.MenuText.{MenuSaid, bad_menu_line, menu_of}
+use Rattle.pip_search_commands.specs.MenuText.{MenuSaid, bad_menu_line}
 use Rattle.pip_search_commands.specs.Searches.{EndsWithFound}
 use Rattle.pip_command_contracts.specs.Pacing.{Waits}
 use Rattle.pip_command_contracts.specs.Streams.{EndsLine, IsCalm, Streams}
@@ -56,7 +55,7 @@ pub after_front : {K : Type 0} (allows : Streams → Type 0) (told : K → Writi
     → (x : BeginsImage bytes) × BeginsMenu x.after → allows (beside left j (told sink)))
     → MayRead allows BeginsMenu (beside b k (told mid))
 after_front allows told {sink} {mid} {h} {m} {a} {b} {j} {k} kept same l paced = λ bytes left taken is.
-    subst (λ s. allows (beside left k (told s))) (sym kept) (subst (λ n. allows (beside left n (told sink))) (sym same)
+    rw kept (subst (λ n. allows (beside left n (told sink))) (sym same)
     (paced (l.front ++ bytes) left (both_read h m a b left l bytes taken) (begins l bytes, is)))
 
 -- ---- where it waits at first
@@ -83,14 +82,14 @@ module _ (states from : ℕ) (depth : Option ℕ) (origin : Start) (code : ℕ) 
       fault = e;
       first = no_image parts bytes c.left e is;
       inside = inside;
-      named = ap (option_map (λ line. plainly 2 line None)) named;
+      named = rw named;
     });
     decided = elim is [
       | inl all ↦ inl (inl (
         record {
           fault = e;
-          first = ap (λ t. t.fault) (faulty parts bytes c.left e (inl all)) ∙ after_fault parts _;
-          fixed = λ rest. all rest ∙ sym (faulty parts bytes c.left e (inl all));
+          first = rw (faulty parts bytes c.left e (inl all), after_fault parts _);
+          fixed = λ rest. cc (all rest, faulty parts bytes c.left e (inl all));
         },
         inside,
       ))
@@ -104,7 +103,7 @@ module _ (states from : ℕ) (depth : Option ℕ) (origin : Start) (code : ℕ) 
       → EndsBy due code p a c
   against_lacks is {stop} why stopped kept quiet =
       let h : StoppedLoading T.Memory a.left c.left a.reads c.reads =
-      subst (λ s. StoppedLoading s a.left c.left a.reads c.reads) why stopped in
+      rw why at stopped in
       by_memory due code p a c (record { reads = λ not. h.1; writes = λ not. quiet }) flushed apart h.0.bytes h.0.read
       none is (inl h.0.header) kept
 
@@ -115,8 +114,8 @@ module _ (states from : ℕ) (depth : Option ℕ) (origin : Start) (code : ℕ) 
       (λ line. EndsLine 2 line code (writing a.written a.writes) (writing c.written c.writes)) → EndsBy due code p a c
   against_faulted {stop} {e} {f} why within stopped quiet same ends =
       let h : RefusesAfter image_parts a.left c.left a.reads c.reads e =
-      subst (λ s. StoppedLoading s a.left c.left a.reads c.reads) why stopped in
-      let inside : IsFaultWithin e = subst IsStopInside why within in
+      rw why at stopped in
+      let inside : IsFaultWithin e = rw why at within in
       by_refusal due code p a c start flushed apart none quiet e h.0 h.1 tt (λ good. (inl good, refl))
       (is_refused h.0 h.1.bytes e inside) same ends
 
@@ -128,14 +127,14 @@ module _ (states from : ℕ) (depth : Option ℕ) (origin : Start) (code : ℕ) 
         → StopsMenu b c.left before c.reads stop → Keeps a.written c.written → c.writes ≡ a.writes
         → EndsBy due code p a c
     against_unread is {stop} why {before} same stopped kept quiet =
-        let t : StopsMenu b c.left before c.reads Unread = subst (StopsMenu b c.left before c.reads) why stopped in
+        let t : StopsMenu b c.left before c.reads Unread = rw why at stopped in
         by_read_fault due code p a c (record { reads = λ not. absurd (not is); writes = λ not. quiet }) flushed apart
         (l.front ++ t.0.bytes) (both_read h m a.left b c.left l t.0.bytes t.0.taken) none is (record {
           text = [];
           due = (inr (begins l t.0.bytes, t.0.begins), refl);
           limit = tt;
           wrote = kept;
-        }) (subst (λ n. RoseByOne n c.reads) same t.1)
+        }) (rw (← same) t.1)
 
     bad_answered : (fault : MenuFault) (t : TakesBadLine b c.left fault)
         → IsAnswered due (l.front ++ t.bytes) (plainly 2 (bad_menu_line fault) None) c.left
@@ -143,16 +142,14 @@ module _ (states from : ℕ) (depth : Option ℕ) (origin : Start) (code : ℕ) 
       | inl all ↦ record {
         is = inr (
           begins l t.bytes,
-          subst (λ r. IsMenuAnswer states from depth origin l.parsed r (plainly 2 (bad_menu_line fault) None))
-              (sym (ap menu_of (sym (append-nil t.bytes)) ∙ all [])) refl,
+          rw (← append-nil t.bytes, all []) refl,
         );
         decided = inl (inr (record { begins = begins l t.bytes; fault = fault; fixed = all }));
       }
       | inr last ↦ record {
         is = inr (
           begins l t.bytes,
-          subst (λ r. IsMenuAnswer states from depth origin l.parsed r (plainly 2 (bad_menu_line fault) None))
-              (sym last.0) refl,
+          rw last.0 refl,
         );
         decided = inr (last.1, tt);
       }
@@ -165,11 +162,11 @@ module _ (states from : ℕ) (depth : Option ℕ) (origin : Start) (code : ℕ) 
         → EndsBy due code p a c
     against_bad {stop} fault why {before} same stopped quiet {line} is ends =
         let t : StopsMenu b c.left before c.reads (Bad fault) =
-        subst (StopsMenu b c.left before c.reads) why stopped in
-        by_plain due code p a c (record { reads = λ not. t.1 ∙ same; writes = quiet }) flushed apart
+        rw why at stopped in
+        by_plain due code p a c (record { reads = λ not. cc (t.1); writes = quiet }) flushed apart
         (l.front ++ t.0.bytes) (both_read h m a.left b c.left l t.0.bytes t.0.taken) none start 2 (bad_menu_line fault)
         (inl (omega arith)) (bad_answered fault t.0)
-        (subst (λ x. EndsLine 2 x code (writing a.written a.writes) (writing c.written c.writes)) is ends)
+        (rw (← is) ends)
 
     -- the search ended, and its text was written or not; or there was no memory for it
     pub against_searched : (menu : MenuSaid) → TakesMenu b c.left menu → IsCalm code a c
@@ -181,7 +178,7 @@ module _ (states from : ℕ) (depth : Option ℕ) (origin : Start) (code : ℕ) 
         (both_read h m a.left b c.left l t.bytes t.taken) none start 0 text (inl (omega arith)) (record {
           is = inr (
             begins l t.bytes,
-            subst (λ r. IsMenuAnswer states from depth origin l.parsed r (plainly 0 text None)) (sym t.is) found,
+            rw t.is found,
           );
           decided = inr (t.ended, tt);
         }) ends

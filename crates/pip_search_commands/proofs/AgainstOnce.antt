@@ -1,7 +1,7 @@
 -- An input of `against` has one answer, and a search that closed names all that can be shown.
-use Rattle.std.proofs.Common.{◌≡◌, ℕ, inl, inr, List, [], ◌∷◌, ◌++◌, Option, None, Some, Ok, Err, sym, ap, ◌∙◌}
+use Rattle.std.proofs.Common.{◌≡◌, ℕ, inl, inr, List, [], ◌∷◌, ◌++◌, Option, Some, Ok, Err, sym, ◌∙◌}
 use Rattle.std.proofs.Common.{◌≢◌, ◌⊎◌, refl, subst, append-nil}
-use Rattle.std.specs.Prelude.{Result, option_map, reverse}
+use Rattle.std.specs.Prelude.{Result, reverse}
 use Rattle.pip_every.specs.Again.{IsSaid, shown_line}
 use Rattle.pip_every.specs.Menus.{menu_model, usual_choices}
 use Rattle.pip_every.specs.declared.again.Again.{Again}
@@ -25,8 +25,7 @@ use Rattle.pip_search_commands.specs.AgainstLaw.{ClosedNamesMenus, InputsSayOnce
 use Rattle.pip_search_commands.specs.AgainstLaw.{AsksComing, YesComesAgain, counts_said, loop_said, way_said}
 use Rattle.pip_command_contracts.specs.ImageDues.{BeginsImage, IsFaultAnswer}
 use Rattle.pip_search_commands.specs.SearchDues.{IsMenuAnswer, begun_moment, image_menu}
-use Rattle.pip_command_contracts.specs.EndsBy.{Response, plainly}
-use Rattle.pip_command_contracts.specs.Faults.{image_line}
+use Rattle.pip_command_contracts.specs.EndsBy.{Response}
 use Rattle.pip_search_commands.specs.MenuText.{MenuSaid, menu_of}
 use Rattle.pip_search_commands.specs.declared.commands.against.menu.MenuFault.{MenuFault}
 use Rattle.pip_search_commands.specs.declared.start.Start.{Start}
@@ -40,20 +39,20 @@ no_fault input e fault inside b = go b.after b.all
     go : (after : List ℕ) → input ≡ b.front ++ after → ⊥
     go [] all =
         let z : ◌≡◌ {A = Result Image ImageError} (Err e) (Ok b.parsed) =
-        sym fault ∙ (ap image (all ∙ append-nil b.front) ∙ b.good) in
+        rw (← fault, all, append-nil b.front, b.good) in
         absurd cc
     go (c ∷ after) all =
         let (at, long) = too_long b.front c after b.parsed b.good in
-        let z : ◌≡◌ {A = Result Image ImageError} (Err e) (Err (F.Long at)) = sym fault ∙ (ap image all ∙ long) in
+        let z : ◌≡◌ {A = Result Image ImageError} (Err e) (Err (F.Long at)) = rw (← fault, all, long) in
         let same : e ≡ F.Long at = cc in
-        subst IsFaultWithin same inside
+        rw same at inside
 
 faults_once : (input : List ℕ) (v u : Response) → IsFaultAnswer input v → IsFaultAnswer input u → v ≡ u
 faults_once input v u a b =
     let z : ◌≡◌ {A = Result Image ImageError} (Err a.fault) (Err b.fault) = sym a.first ∙ b.first in
     let same : a.fault ≡ b.fault = cc in
     let both : Some v ≡ Some u =
-    sym a.named ∙ (ap (λ e. option_map (λ line. plainly 2 line None) (image_line e)) same ∙ b.named) in
+    rw (← a.named, same, b.named) in
     cc
 
 -- the labels of which it is asked whether they come: some, or none
@@ -71,7 +70,7 @@ menus_once states from depth start input b (Ok menu) v u is h k =
       | inl none ↦ inl (differ_in_none b.parsed menu v u none d)
       | inr some ↦ inr (record { begins = b; menu = menu; read = is; some = some; differ = d })
     ]
-menus_once states from depth start input b (Err fault) v u is h k = inl (h ∙ sym k)
+menus_once states from depth start input b (Err fault) v u is h k = inl (cc)
 
 pub inputs_say_once : InputsSayOnce
 inputs_say_once states from depth start input v u (inl a) (inl b) = inl (faults_once input v u a b)
@@ -83,20 +82,19 @@ inputs_say_once states from depth start input v u (inr (x, a)) (inr (y, b)) =
     let front : y.front ≡ x.front =
     one_front y.front x.front y.after x.after y.parsed x.parsed (sym y.all ∙ x.all) y.good x.good in
     let after : y.after ≡ x.after =
-    one_rest x.front y.after x.after (ap (λ f. f ++ y.after) (sym front) ∙ (sym y.all ∙ x.all)) in
-    let z : ◌≡◌ {A = Result Image ImageError} (Ok y.parsed) (Ok x.parsed) = sym y.good ∙ (ap image front ∙ x.good) in
+    one_rest x.front y.after x.after (cc (y.all, x.all)) in
+    let z : ◌≡◌ {A = Result Image ImageError} (Ok y.parsed) (Ok x.parsed) = rw (← y.good, front, x.good) in
     let image_is : y.parsed ≡ x.parsed = cc in
     menus_once states from depth start input x (menu_of x.after) v u refl a
-    (subst (λ i. IsMenuAnswer states from depth start i (menu_of x.after) u) image_is
-    (subst (λ bs. IsMenuAnswer states from depth start y.parsed (menu_of bs) u) after b))
+    (rw (← image_is) (subst (λ bs. IsMenuAnswer states from depth start y.parsed (menu_of bs) u) after b))
 
 pub closed_names_menus : ClosedNamesMenus
 closed_names_menus menu states from depth most start i v s closed label choices some shown =
     let w = s.told.all label choices shown some (covered _ s.verdict closed) in
-    record { place = w.place; witness = w.witness; at = w.at; same = w.same }
+    search
   where
     covered : (k : ℕ) (d : Extent) → d ≡ Closed depth → IsCovered d k
-    covered k d e = subst (λ x. IsCovered x k) (sym e) tt
+    covered k d e = rw e tt
 
 -- ---- what is said of labels
 
@@ -111,7 +109,7 @@ module _ (m : Model) (n : ℕ) (s : m.State) (label : List ℕ) where
   lost_after end Can runs said h = cc
   lost_after end Unknown runs said h = cc
   lost_after (Closed depth) (Lost way) runs said (cs, (is, h)) =
-      let same : way.items ≡ runs = cc in (cs, (sym same ∙ is, h))
+      let same : way.items ≡ runs = cc in (cs, (cc, h))
   lost_after (Within depth) (Lost way) runs said h = cc
   lost_after (Stopped depth) (Lost way) runs said h = cc
 
@@ -129,7 +127,7 @@ module _ (m : Model) (classes : List ℕ) (s : m.State) (label : List ℕ) where
   must_come : (end : Extent) (r : Comes) (counts : List ℕ) → counts_said r ≡ Some counts
       → IsComing m classes s label end r → MustCome m classes s label counts
   must_come (Closed depth) (C.Must found) counts said h = let same : found.items ≡ counts = cc in
-      subst (MustCome m classes s label) same h
+      rw (← same) h
   must_come end (C.Avoided way round) counts said h = cc
   must_come end C.Unknown counts said h = cc
   must_come (Within depth) (C.Must found) counts said h = cc

@@ -2,7 +2,7 @@
 use Rattle.std.proofs.Common.{◌≡◌, ◌≢◌, ℕ, zero, suc, ◌+◌, ◌-◌, inl, inr, not, Bool, true, false, List, [], ◌∷◌}
 use Rattle.std.proofs.Common.{◌++◌, length, take, None, Some, refl, sym, ap, ◌∙◌, subst, arith, append_assoc}
 use Rattle.std.proofs.Common.{append-nil, eqb-true, decimal}
-use Rattle.std.specs.Prelude.{◌==◌, codes, drop, flat_map, if◌then◌else◌, reverse, slice_get}
+use Rattle.std.specs.Prelude.{◌==◌, codes, flat_map, reverse, slice_get}
 use Rattle.std.specs.List.{list_any}
 use Rattle.std.proofs.lemmas.List.{reverse-append}
 use Rattle.pip_apart.specs.Alone.{mark}
@@ -18,7 +18,7 @@ use Rattle.pip_core_text.specs.CoreRead.{AreWholeLines}
 use Rattle.pip_guests.specs.Programs.{Slot, all_steps, next_world, ready, run_slots, turn_of}
 use Rattle.pip_model.specs.Acts.{Act, after_acts, text_of}
 use Rattle.pip_model.specs.Images.{Image}
-use Rattle.pip_model.specs.Run.{end_line, image_world, raises, schedule, steps, trace_image_line}
+use Rattle.pip_model.specs.Run.{image_world, raises, schedule, steps, trace_image_line}
 use Rattle.pip_model.specs.RunTexts.{stepped_world}
 use Rattle.pip_model.specs.Turn.{turn}
 use Rattle.pip_model.specs.Worlds.{World}
@@ -41,9 +41,9 @@ use Rattle.pip_search_commands.proofs.EveryLines.{lines_are_of_runs}
 pub both_whole : (xs ys : List ℕ) → AreWholeLines xs → AreWholeLines ys → AreWholeLines (xs ++ ys)
 both_whole xs ys h (inr (front, is)) = inr (
   xs ++ front,
-  ap (λ v. xs ++ v) is ∙ sym (append_assoc xs front (10 ∷ [])),
+  rw (is, ← append_assoc xs front (10 ∷ [])),
 )
-both_whole xs ys h (inl none) = subst AreWholeLines (sym (ap (λ v. xs ++ v) none ∙ append-nil xs)) h
+both_whole xs ys h (inl none) = rw (none, append-nil xs) h
 
 pub all_whole : {A : Type 0} (f : A → List ℕ) → ((x : A) → AreWholeLines (f x)) → (xs : List A)
     → AreWholeLines (flat_map f xs)
@@ -86,7 +86,7 @@ image_whole n c p k = inr (
 
 -- the last byte but one of a text
 last_but_one : (front end : List ℕ) → slice_get (reverse (front ++ end)) 1 ≡ slice_get (reverse end ++ reverse front) 1
-last_but_one front end = ap (λ v. slice_get v 1) (reverse-append front end)
+last_but_one front end = rw (reverse-append front end)
 
 -- no text ends with both
 no_and_yes : (xs ys : List ℕ) → xs ++ apart_line false ≡ ys ++ apart_line true → ⊥
@@ -94,9 +94,8 @@ no_and_yes xs ys e =
     let o : ℕ = 111 in
     let s : ℕ = 115 in
     let same : Some o ≡ Some s =
-    sym (last_but_one xs (apart_line false)) ∙ ap (λ v. slice_get (reverse v) 1) e
-    ∙ last_but_one ys (apart_line true) in
-    let z : o ≡ s = cc in omega (arith, z)
+    rw (← last_but_one xs (apart_line false), e, last_but_one ys (apart_line true)) in
+    let z : o ≡ s = cc in omega arith
 
 -- so the guests hold in company
 says_yes : (i : Image) (k : Known) → SaysYes (apart_text i k) → hold_apart k ≡ true
@@ -114,8 +113,7 @@ says_yes i k (front, is) = go (hold_apart k) refl
     go : (b : Bool) → hold_apart k ≡ b → hold_apart k ≡ true
     go true e = e
     go false e = absurd (no_and_yes before front (sym (whole false)
-        ∙ (ap (λ b. trace_image_line i.frames i.cpus (length i.plans) (length i.pages)
-        ++ (flat_map guest_text k.guests ++ (root_line k.root ++ taken_line k.line ++ apart_line b))) (sym e) ∙ is)))
+        ∙ (cc)))
 
 -- ---- a line of a guest
 
@@ -146,7 +144,7 @@ unmarked_at g n x on at = go x.label refl
       where
         test : (b : Bool) → (c == mark) ≡ b → b ≡ false
         test false d = refl
-        test true d = absurd (plain cs (e ∙ ap (λ v. v ∷ cs) (eqb-true c mark d)))
+        test true d = absurd (plain cs (rw (e, eqb-true c mark d)))
 
 -- the pieces of a text before and after a line in its midst
 regrouped : (a b c d line e f g h : List ℕ) → a ++ ((b ++ (((c ++ (d ++ (line ++ e))) ++ f) ++ g)) ++ h)
@@ -169,13 +167,12 @@ named i k on label is =
     let front = flat_map guest_text (take is.place k.guests) in
     let mine = flat_map (turn_line g.cpus) (take is.number g.lines) in
     let plain : turn_line g.cpus x ≡ shown_text step label way =
-    ap (λ b. (if b then codes "leaves " else []) ++ shown_text step (if b then drop 1 x.label else x.label) way) off
-    ∙ ap (λ l. shown_text step l way) is.same in
+    rw (off, is.same) in
     let line : flat_map (turn_line g.cpus) g.lines ≡ mine ++ (shown_text step label way ++ more) =
-    cut ∙ ap (λ l. mine ++ (l ++ more)) plain in
+    rw (cut, plain) in
     let guest : guest_text g
     ≡ (guest_line g.top g.cpus ++ (mine ++ (shown_text step label way ++ more))) ++ verdict_line g.count g.end =
-    ap (λ l. (guest_line g.top g.cpus ++ l) ++ verdict_line g.count g.end) line in
+    rw line in
     record {
       before = image ++ (front ++ (guest_line g.top g.cpus ++ mine));
       step = step;
@@ -187,9 +184,7 @@ named i k on label is =
           (all_whole guest_text guest_whole (take is.place k.guests))
           (both_whole (guest_line g.top g.cpus) mine (head_whole g.top g.cpus)
           (all_whole (turn_line g.cpus) (turn_whole g.cpus) (take is.number g.lines))));
-      whole = ap (λ l. image ++ (l ++ last)) split
-          ∙ (ap (λ l. image ++ ((front ++ (l ++ others)) ++ last)) guest
-          ∙ regrouped image front (guest_line g.top g.cpus) mine (shown_text step label way) more
+      whole = cc (regrouped image front (guest_line g.top g.cpus) mine (shown_text step label way) more
           (verdict_line g.count g.end) others last);
     }
 
@@ -219,9 +214,11 @@ module _ (text : List ℕ) (gs : List GuestAlone) (plans : List Plan)
         label = text_of (turn v s.cpu 0);
         line = text_of (turn_of v s);
         rest = text_of others;
-        whole = text-append (raises plans t ++ turn_of v s) others
-            ∙ ap (λ l. l ++ text_of others)
-            (text-append (raises plans t) (turn_of v s) ∙ ap (λ l. l ++ text_of (turn_of v s)) (text-raises plans t));
+        whole = rw (
+          text-append (raises plans t ++ turn_of v s) others,
+          text-append (raises plans t) (turn_of v s),
+          text-raises plans t,
+        );
         same = lines_are_of_runs v s.cpu t;
         known = λ some. known (text_of (turn v s.cpu 0)) (h.0 some);
         goes_on = steps_named seed c n (t + 1) (next_world plans w s) h.1;
@@ -239,11 +236,10 @@ module _ (states count seed : ℕ) (i : Image) (text : List ℕ)
   text_is = same_answer text (apart_text i f.known) f.text
 
   pub holds : hold_apart f.known ≡ true
-  holds = says_yes i f.known (subst SaysYes text_is says)
+  holds = says_yes i f.known (rw (← text_is) says)
 
   known_named : (label : List ℕ) → IsLineOf f.known.guests label → HasLineOf text label
-  known_named label is = subst (λ t. HasLineOf t label) (sym text_is)
-      (named i f.known (both (all_stay f.known.guests) _ holds).0 label is)
+  known_named label is = rw text_is (named i f.known (both (all_stay f.known.guests) _ holds).0 label is)
 
 pub yes_names_all : YesNamesAll
 yes_names_all states count seed i text plans ss f says below =
@@ -261,8 +257,7 @@ yes_names_runs input states count seed n i text bytes is f says =
     let others : List Act = all_steps i.plans (after_acts w first) (run_slots seed i.cpus n count) in
     record {
       lines = text_of others;
-      whole = text-trace w line i.plans seed i.cpus (count + n)
-          ∙ ap (λ l. line ++ (l ++ end_line (count + n))) (ap text_of r.acts ∙ text-append first others);
+      whole = rw (text-trace w line i.plans seed i.cpus (count + n), r.acts, text-append first others);
       named = steps_named text f.known.guests i.plans (known_named states count seed i text f says) seed i.cpus n count
           (after_acts w first) r.show;
     }

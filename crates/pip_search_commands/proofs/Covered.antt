@@ -1,9 +1,9 @@
 -- A search with a menu that closed names each line of a run whose turns are matched by its choices.
-use Rattle.std.proofs.Common.{◌≡◌, ◌≢◌, ℕ, zero, suc, ◌+◌, ◌-◌, ◌≤◌, ◌&&◌, inl, inr, min, List, [], ◌∷◌, ◌++◌, length}
-use Rattle.std.proofs.Common.{refl, Bool, true, false, if◌then◌else◌, sym, ap, ◌∙◌, subst, arith, slice_index}
+use Rattle.std.proofs.Common.{◌≡◌, ◌≢◌, ℕ, zero, suc, ◌+◌, ◌-◌, ◌≤◌, inl, inr, min, List, [], ◌∷◌, length}
+use Rattle.std.proofs.Common.{refl, Bool, true, false, if◌then◌else◌, sym, arith}
 use Rattle.std.proofs.lemmas.Bool.{le-ltb}
 use Rattle.pip_base.specs.declared.types.Plan.{Plan}
-use Rattle.pip_every.specs.Menus.{Menu, Usual, is_hostile, menu_model, name_on, pick_acts, pick_turns, picked}
+use Rattle.pip_every.specs.Menus.{Menu, Usual, menu_model, pick_acts, pick_turns, picked}
 use Rattle.pip_every.specs.Moments.{Moment}
 use Rattle.pip_every.proofs.Choosing.{raise_chosen, same_turns}
 use Rattle.pip_every.proofs.Picking.{goes_is}
@@ -11,7 +11,6 @@ use Rattle.pip_base.specs.Memory.{Memory}
 use Rattle.pip_model.specs.Acts.{Act, Makes, after_acts, text_of}
 use Rattle.pip_model.specs.Due.{is_due}
 use Rattle.pip_model.specs.Events as E
-use Rattle.pip_model.specs.Happens.{after}
 use Rattle.pip_model.specs.Lists.{In}
 use Rattle.pip_model.specs.Run.{raises, schedule, step, steps}
 use Rattle.pip_model.specs.Turn.{turn, world_of}
@@ -32,7 +31,7 @@ use Rattle.pip_search_commands.proofs.RunsChosen.{StandsAt, due_late, place_in, 
 alike_raised : (own pages : List ℕ) (w v : World) (j : ℕ) → LookAlike own pages w v
     → LookAlike own pages (world_of w (E.Raise j)) (world_of v (E.Raise j))
 alike_raised own pages w v j a = record {
-  tree = ap (λ t. (world_of (record v { tree = t }) (E.Raise j)).tree) a.tree;
+  tree = cc (a.tree);
   words = a.words;
   count = a.count;
   names = a.names;
@@ -61,22 +60,20 @@ module _ (first : Memory) (g : Menu) (m : Moment) (t0 : ℕ) (own pages : List �
       let here : Moment = at h.choices in
       let above : g.scope.cpus ≤ c = omega arith in
       let there : c - g.scope.cpus ≡ s.place = omega arith in
-      let now : g.scope.from ≤ here.turns = omega (arith, time, h.late) in
-      let pick : picked g here.world c ≡ Usual = goes_is g here.world c (omega (arith, s.within))
-      (ap (λ b. b && is_hostile here.world.tree.root.name (name_on here.world c) g.may) (le-ltb c g.scope.cpus above))
+      let now : g.scope.from ≤ here.turns = omega arith in
+      let pick : picked g here.world c ≡ Usual = goes_is g here.world c (omega arith)
+      (rw (le-ltb c g.scope.cpus above))
       in
-      let acts : pick_acts g here c (picked g here.world c) ≡ Makes (E.Raise j) ∷ [] = ap (pick_acts g here c) pick
-      ∙ (raise_chosen g.scope here c above now
-      ∙ ap (λ l. Makes (E.Raise l) ∷ []) (ap (slice_index g.scope.lines) there ∙ s.is)) in
+      let acts : pick_acts g here c (picked g here.world c) ≡ Makes (E.Raise j) ∷ [] = rw
+      (pick, raise_chosen g.scope here c above now, there, s.is) in
       let turns : pick_turns g here c (picked g here.world c) ≡ here.turns =
-      ap (pick_turns g here c) pick ∙ same_turns g.scope here c above in
+      rw (pick, same_turns g.scope here c above) in
       record {
         choices = c ∷ h.choices;
-        can = (omega (arith, s.within), h.can);
+        can = (omega arith, h.can);
         since = h.since;
-        late = subst (λ n. min (t - t0) g.scope.from ≤ n) (sym turns) h.late;
-        alike = subst (λ es. LookAlike own pages (world_of w (E.Raise j)) (after_acts here.world es)) (sym acts)
-            (alike_raised own pages w here.world j h.alike);
+        late = rw turns h.late;
+        alike = rw acts (alike_raised own pages w here.world j h.alike);
       }
 
   -- the lines that are due are raised
@@ -95,7 +92,7 @@ module _ (first : Memory) (g : Menu) (m : Moment) (t0 : ℕ) (own pages : List �
   module _ (ws : List Witness) (most limit count depth : ℕ) (end : Extent)
       (told : IsTold (menu_model first g) m most limit ws count end) (closed : end ≡ Closed depth) where
     covered : (k : ℕ) → IsCovered end k
-    covered k = subst (λ d. IsCovered d k) (sym closed) tt
+    covered k = rw closed tt
 
     -- a processor has its turn, which a choice matches
     turned : (w : World) (t c : ℕ) → IsMatched own pages g w c → IsLike w t
@@ -106,22 +103,21 @@ module _ (first : Memory) (g : Menu) (m : Moment) (t0 : ℕ) (own pages : List �
         let k = told.counted.all h.choices h.can (covered (length h.choices)) in
         let x : Matches own pages g w c here = match here k.stands.stands.sound h.alike in
         let same : after_acts w (turn w c 0) ≡ after_acts w (turn w c t) =
-        after-events w (turn w c 0)
-        ∙ (ap (after w) (sym (turn_events w c t)) ∙ sym (after-events w (turn w c t))) in (
+        rw (after-events w (turn w c 0), ← turn_events w c t, ← after-events w (turn w c t)) in (
           record {
             choices = x.choice ∷ h.choices;
             can = (x.can, h.can);
-            since = omega (arith, h.since);
+            since = omega arith;
             late = elim x.counts [
-              | inl all ↦ omega (arith, all)
-              | inr more ↦ omega (arith, more, h.late, h.since)
+              | inl all ↦ omega arith
+              | inr more ↦ omega arith
             ];
-            alike = subst (λ u. LookAlike own pages u (at (x.choice ∷ h.choices)).world) same x.alike;
+            alike = rw (← same) x.alike;
           },
           λ some.
               let n = told.all (text_of (turn w c 0)) (x.choice ∷ h.choices) ((x.can, h.can), sym x.same) some
               (covered (length (x.choice ∷ h.choices))) in
-              record { place = n.place; witness = n.witness; at = n.at; same = n.same },
+              search,
         )
 
     -- n steps more
@@ -142,19 +138,16 @@ module _ (first : Memory) (g : Menu) (m : Moment) (t0 : ℕ) (own pages : List �
           label = text_of (turn w' cpu 0);
           line = text_of acts;
           rest = text_of others;
-          whole = text-append st others ∙ ap (λ v. v ++ text_of others)
-              (text-append rs acts ∙ ap (λ v. v ++ text_of acts) (text-raises ps t));
+          whole = rw (text-append st others, text-append rs acts, text-raises ps t);
           same = lines_are_of_runs w' cpu t;
           known = one.1;
-          goes_on = on ps seed c n (t + 1) (after_acts w st) are match.1 (subst (λ v. IsLike v (t + 1)) there one.0);
+          goes_on = on ps seed c n (t + 1) (after_acts w st) are match.1 (rw (← there) one.0);
         }
 
 pub matched_runs_are_named : MatchedRunsAreNamed
 matched_runs_are_named own pages menu states from depth most start i j v s closed cpus alike ps seed n are match =
     let t : ℕ = start.count in
     let w : World = begun_world j start in
-    subst (λ c. AreLinesOf (IsNamedBy s.found) t n (text_of (steps w ps seed c n t))) (sym cpus)
-    (on s.first (image_menu i from menu.may) (begun_moment i start) t own pages s.found (most_choices most) states
-    s.count
-    depth s.verdict s.told closed ps seed i.cpus n t w are match
+    rw (← cpus) at (on s.first (image_menu i from menu.may) (begun_moment i start) t own pages s.found
+    (most_choices most) states s.count depth s.verdict s.told closed ps seed i.cpus n t w are match
     (record { choices = []; can = tt; since = omega arith; late = omega arith; alike = alike }))

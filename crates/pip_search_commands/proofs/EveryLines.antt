@@ -1,6 +1,6 @@
 -- The lines of `every` are those of runs: a turn's line at another step differs in the step alone.
 use Rattle.std.proofs.Common.{◌≡◌, ◌≢◌, ℕ, List, [], ◌∷◌, ◌++◌, inl, inr, Option, None, Some}
-use Rattle.std.proofs.Common.{refl, sym, ap, ◌∙◌, subst, arith, append-nil, append_assoc, decimal}
+use Rattle.std.proofs.Common.{refl, sym, subst, arith, append-nil, append_assoc, decimal}
 use Rattle.std.specs.Prelude.{codes}
 use Rattle.std.proofs.lemmas.Fmt.{decimal_digit}
 use Rattle.pip_base.specs.Status.{status_number}
@@ -25,11 +25,11 @@ use Rattle.pip_search_commands.specs.EveryLaw.{IsLineAt, LinesAreOfRuns}
 at_step : (t : ℕ) (rest : List ℕ) → IsLineAt t (decimal 0 ++ (rest ++ 10 ∷ [])) (decimal t ++ (rest ++ 10 ∷ []))
 at_step t rest =
     let body : inner (decimal 0 ++ (rest ++ 10 ∷ [])) ≡ rest =
-    ap (λ z. inner (z ++ (rest ++ 10 ∷ []))) (decimal_digit 0 (omega arith)) ∙ inner_of 48 10 rest in
+    rw (decimal_digit 0 (omega arith), inner_of 48 10 rest) in
     let zero_is : decimal 0 ≡ 48 ∷ [] = decimal_digit 0 (omega arith) in
     let some : decimal 0 ++ (rest ++ 10 ∷ []) ≢ [] = λ e.
-    let none : 48 ∷ (rest ++ 10 ∷ []) ≡ [] = ap (λ z. z ++ (rest ++ 10 ∷ [])) (sym zero_is) ∙ e in absurd cc in
-    inr (some, sym (ap (λ b. decimal t ++ b ++ 10 ∷ []) body ∙ append_assoc (decimal t) rest (10 ∷ [])))
+    let none : 48 ∷ (rest ++ 10 ∷ []) ≡ [] = cc in absurd cc in
+    inr (some, cc (append_assoc (decimal t) rest (10 ∷ [])))
 
 -- a line of a processor, by what comes after the head
 line_form : (t cpu : ℕ) (x : List ℕ)
@@ -38,20 +38,18 @@ line_form t cpu x = simp append_assoc
 
 stepped : (t cpu : ℕ) (x : List ℕ) → IsLineAt t (head 0 cpu ++ (x ++ 10 ∷ [])) (head t cpu ++ (x ++ 10 ∷ []))
 stepped t cpu x =
-    subst (λ l. IsLineAt t (head 0 cpu ++ (x ++ 10 ∷ [])) l) (sym (line_form t cpu x))
-    (subst (λ l. IsLineAt t l (decimal t ++ (((codes " " ++ decimal cpu) ++ x) ++ 10 ∷ []))) (sym (line_form 0 cpu x))
-    (at_step t ((codes " " ++ decimal cpu) ++ x)))
+    rw (line_form t cpu x) (subst (λ l. IsLineAt t l (decimal t ++ (((codes " " ++ decimal cpu) ++ x) ++ 10 ∷ [])))
+    (sym (line_form 0 cpu x)) (at_step t ((codes " " ++ decimal cpu) ++ x)))
 
 -- so is a line that is put together in another way
 alike : (t cpu : ℕ) (x : List ℕ) (line : ℕ → List ℕ) → ((s : ℕ) → line s ≡ head s cpu ++ (x ++ 10 ∷ []))
     → IsLineAt t (line 0) (line t)
 alike t cpu x line is =
-    subst (λ l. IsLineAt t (line 0) l) (sym (is t))
-    (subst (λ l. IsLineAt t l (head t cpu ++ (x ++ 10 ∷ []))) (sym (is 0)) (stepped t cpu x))
+    rw (is t) (subst (λ l. IsLineAt t l (head t cpu ++ (x ++ 10 ∷ []))) (sym (is 0)) (stepped t cpu x))
 
 alone : (t : ℕ) (a b : List ℕ) → IsLineAt t a b → IsLineAt t (a ++ []) (b ++ [])
 alone t a b is =
-    subst (λ l. IsLineAt t (a ++ []) l) (sym (append-nil b)) (subst (λ l. IsLineAt t l b) (sym (append-nil a)) is)
+    rw (append-nil b) (subst (λ l. IsLineAt t l b) (sym (append-nil a)) is)
 
 -- ---- the lines
 

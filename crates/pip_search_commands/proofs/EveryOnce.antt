@@ -1,7 +1,7 @@
 -- Two searches of one image say the same.
-use Rattle.std.proofs.Common.{◌≡◌, ℕ, suc, ◌<◌, List, [], ◌∷◌, ◌++◌, Option, None, refl, sym, ap, ap₂, ◌∙◌, subst}
+use Rattle.std.proofs.Common.{◌≡◌, ℕ, suc, ◌<◌, List, [], ◌∷◌, ◌++◌, Option, refl, sym, ap₂, ◌∙◌, subst}
 use Rattle.std.proofs.Common.{Bool, arith, false, true}
-use Rattle.std.specs.Prelude.{codes, flat_map, reverse}
+use Rattle.std.specs.Prelude.{codes, reverse}
 use Rattle.pip_away.specs.Blind.{LeftOut, leaves_out}
 use Rattle.pip_base.specs.Memory.{Memory}
 use Rattle.pip_base.proofs.Memory.{same_words}
@@ -33,12 +33,11 @@ use Rattle.pip_search.proofs.Once.{no_later_both, says_once}
 use Rattle.pip_search_commands.specs.AgainstLaw.{DifferInComing, EmptyMenusSayEvery, IsNoContradiction}
 use Rattle.pip_search_commands.specs.SearchDues.{IsSearchedAgainst, begun_moment, image_menu, image_scope, most_choices}
 use Rattle.pip_search_commands.specs.declared.start.Start.{Start}
-use Rattle.pip_ways.specs.Texts.{spaced_run}
-use Rattle.pip_command_contracts.specs.EndsBy.{Response, plainly}
+use Rattle.pip_command_contracts.specs.EndsBy.{Response}
 use Rattle.pip_search_commands.specs.EveryLaw.{SearchesSayOnce}
 use Rattle.pip_command_contracts.specs.Planned.{lines_planned}
 use Rattle.pip_search_commands.specs.EveryText.{again_front, again_text, away_text, away_words, comes_text}
-use Rattle.pip_search_commands.specs.EveryText.{every_text, said_words, seen_words}
+use Rattle.pip_search_commands.specs.EveryText.{said_words, seen_words}
 use Rattle.pip_search_commands.specs.MenuText.{MenuSaid, no_menu}
 
 -- one memory boots with these words
@@ -46,7 +45,7 @@ pub same_first : (n : ℕ) (words : ℕ → ℕ → ℕ) (m k : Memory) → IsBo
 same_first n words m k a b =
     same_words m k a.laid.shape b.laid.shape (a.laid.count ∙ sym b.laid.count)
     (λ f i less inside. let at = subst (λ c. f < c) a.laid.count less in
-    a.laid.word f i at inside ∙ sym (b.laid.word f i at inside))
+    cc (a.laid.word f i at inside, b.laid.word f i at inside))
 
 -- ---- what is said of labels
 
@@ -58,8 +57,7 @@ module _ (m : Model) (n : ℕ) (s : m.State) (end : Extent) (cpus : ℕ) (ls : L
       same_ways : (way other : List Run) (cs ds : List ℕ) → way ≡ reverse (runs_of cs) → other ≡ reverse (runs_of ds)
           → IsLost m n s label cs → IsLost m n s label ds → way ≡ other
       same_ways way other cs ds is also h k =
-          is ∙ (ap (λ w. reverse (runs_of w))
-          (no_later_both cs ds (h.first ds k.can k.lost) (k.first cs h.can h.lost)) ∙ sym also)
+          rw (is, no_later_both cs ds (h.first ds k.can k.lost) (k.first cs h.can h.lost), ← also)
 
       go : (end : Extent) (a b : Again) → IsSaid m n s label end a → IsSaid m n s label end b
           → said_words cpus ls a ≡ said_words cpus ls b
@@ -68,25 +66,24 @@ module _ (m : Model) (n : ℕ) (s : m.State) (end : Extent) (cpus : ℕ) (ls : L
       go (Closed depth) Can Unknown h k = absurd k
       go (Closed depth) (Lost way) Can (cs, (is, h)) k = absurd (h.lost (k cs h.can))
       go (Closed depth) (Lost way) (Lost other) (cs, (is, h)) (ds, (also, k)) =
-          ap (λ rs. codes ": no" ++ flat_map (spaced_run cpus ls) rs ++ codes "\n")
-          (same_ways way.items other.items cs ds is also h k)
+          rw (same_ways way.items other.items cs ds is also h k)
       go (Closed depth) (Lost way) Unknown h k = absurd k
       go (Closed depth) Unknown b h k = absurd h
-      go (Within depth) a b h k = ap (said_words cpus ls) (h ∙ sym k)
-      go (Stopped depth) a b h k = ap (said_words cpus ls) (h ∙ sym k)
+      go (Within depth) a b h k = cc
+      go (Stopped depth) a b h k = cc
 
   rest_said : (l : List ℕ) (labels : List (List ℕ)) (r : Again) (said : List Again)
       → AreSaid m n s (l ∷ labels) end (r ∷ said) → AreSaid m n s labels end said
   rest_said l labels r said h = record {
-    count = let c = h.count in omega (arith, c);
+    count = omega arith;
     each = λ j line x at is. h.each (suc j) line x at is;
   }
 
   text_once : (labels : List (List ℕ)) (said other : List Again) → AreSaid m n s labels end said
       → AreSaid m n s labels end other → again_text cpus ls labels said ≡ again_text cpus ls labels other
   text_once [] said other h k = refl
-  text_once (l ∷ labels) [] other h k = let c = h.count in absurd (omega (arith, c))
-  text_once (l ∷ labels) (a ∷ said) [] h k = let c = k.count in absurd (omega (arith, c))
+  text_once (l ∷ labels) [] other h k = let c = h.count in absurd (omega arith)
+  text_once (l ∷ labels) (a ∷ said) [] h k = let c = k.count in absurd (omega arith)
   text_once (l ∷ labels) (a ∷ said) (b ∷ other) h k =
       ap₂ (λ x y. (codes "again " ++ (l ++ x)) ++ y)
       (words_once (shown_line l) a b (h.each 0 l a refl refl) (k.each 0 l b refl refl))
@@ -106,8 +103,8 @@ agree_once m classes s label (Closed depth) (C.Must counts) C.Unknown h k = tt
 agree_once m classes s label (Closed depth) (C.Avoided way round) (C.Avoided other turn) h k = tt
 agree_once m classes s label (Closed depth) (C.Avoided way round) C.Unknown h k = tt
 agree_once m classes s label (Closed depth) C.Unknown b h k = tt
-agree_once m classes s label (Within depth) a b h k = subst (λ x. IsNoContradiction x b) (sym h) tt
-agree_once m classes s label (Stopped depth) a b h k = subst (λ x. IsNoContradiction x b) (sym h) tt
+agree_once m classes s label (Within depth) a b h k = rw h tt
+agree_once m classes s label (Stopped depth) a b h k = rw h tt
 
 -- ---- what is said of the words that are left out
 
@@ -131,9 +128,8 @@ away_once first o g s cpus ls end a b h k = by_test (leaves_out o) refl
     by_test true e =
         let (x, (is, said)) = h.asked e in
         let (y, (also, other)) = k.asked e in
-        ap (away_text cpus ls) is
-        ∙ (same_words_away cpus ls x y (said_once first o g s end x y said other) ∙ sym (ap (away_text cpus ls) also))
-    by_test false e = ap (away_text cpus ls) (h.none e ∙ sym (k.none e))
+        cc (same_words_away cpus ls x y (said_once first o g s end x y said other))
+    by_test false e = cc (h.none e, k.none e)
 
 -- an image and a menu have one text, but for what is said of labels that may come
 pub searched_alike : (menu : MenuSaid) (states from : ℕ) (depth : Option ℕ) (start : Start) (i : Image) (v u : Response)
@@ -146,29 +142,23 @@ searched_alike menu states from depth start i v u a b =
     let s = begun_moment i start in
     let first : b.first ≡ a.first = same_first i.frames words b.first a.first b.booted a.booted in
     let other : IsTold m s (most_choices depth) states b.found b.count b.verdict =
-    subst (λ k. IsTold (menu_model k g) s (most_choices depth) states b.found b.count b.verdict) first b.told in
+    rw (← first) b.told in
     let (ws, (count, verdict)) = says_once m (one_key a.first (image_scope i from)) s (most_choices depth) states
     a.count
     b.count a.found b.found a.verdict b.verdict a.told other in
     let said : AreSaid m (usual_choices g) s menu.again a.verdict b.again =
-    subst (λ d. AreSaid m (usual_choices g) s menu.again d b.again) (sym verdict)
-    (subst (λ k. AreSaid (menu_model k g) (usual_choices g) s menu.again b.verdict b.again) first b.said) in
+    rw verdict (subst (λ k. AreSaid (menu_model k g) (usual_choices g) s menu.again b.verdict b.again) first b.said) in
     let coming : AreComing m (own_classes (usual_choices g)) s menu.comes a.verdict b.comes =
-    subst (λ d. AreComing m (own_classes (usual_choices g)) s menu.comes d b.comes) (sym verdict)
-    (subst (λ k. AreComing (menu_model k g) (own_classes (usual_choices g)) s menu.comes b.verdict b.comes) first
-    b.coming) in
+    rw verdict (subst (λ k. AreComing (menu_model k g) (own_classes (usual_choices g)) s menu.comes b.verdict b.comes)
+    first b.coming) in
     let lines : again_text i.cpus (lines_planned i.plans) menu.again a.again
     ≡ again_text i.cpus (lines_planned i.plans) menu.again b.again =
     text_once m (usual_choices g) s a.verdict i.cpus (lines_planned i.plans) menu.again a.again b.again a.said said in
     let front : again_front i a.found a.count a.verdict menu.again a.again
     ≡ again_front i b.found b.count b.verdict menu.again b.again =
-    ap (λ w. again_front i w a.count a.verdict menu.again a.again) ws
-    ∙ (ap (λ n. again_front i b.found n a.verdict menu.again a.again) count
-    ∙ (ap (λ d. again_front i b.found b.count d menu.again a.again) verdict
-    ∙ ap (λ t. every_text i b.found b.count b.verdict ++ t) lines)) in
+    rw (ws, count, verdict, lines) in
     let looks : IsAwayReply a.first menu.out g s a.verdict b.away =
-    subst (λ d. IsAwayReply a.first menu.out g s d b.away) (sym verdict)
-    (subst (λ k. IsAwayReply k menu.out g s b.verdict b.away) first b.looks) in
+    rw verdict (subst (λ k. IsAwayReply k menu.out g s b.verdict b.away) first b.looks) in
     let away = away_once a.first menu.out g s i.cpus (lines_planned i.plans) a.verdict b.away a.away looks a.looks in
     let comes : List ℕ = comes_text i.cpus (lines_planned i.plans) menu.comes b.comes in
     record {
@@ -177,9 +167,7 @@ searched_alike menu states from depth start i v u a b =
       other = b.comes;
       back = away_text i.cpus (lines_planned i.plans) a.away;
       first = a.text;
-      second = b.text
-          ∙ (ap (λ t. plainly 0 (t ++ (comes ++ away_text i.cpus (lines_planned i.plans) b.away)) None) (sym front)
-          ∙ ap (λ x. plainly 0 (again_front i a.found a.count a.verdict menu.again a.again ++ (comes ++ x)) None) away);
+      second = cc (b.text);
       agree = λ j label x y at one two. agree_once m (own_classes (usual_choices g)) s (shown_line label) a.verdict x y
           (a.coming.each j label x at one) (coming.each j label y at two);
     }
@@ -190,9 +178,8 @@ pub differ_in_none : (i : Image) (menu : MenuSaid) (v u : Response) → menu.com
 differ_in_none i menu v u none d =
     let text : List Comes → List ℕ = comes_text i.cpus (lines_planned i.plans) menu.comes in
     let empty : (said : List Comes) → text said ≡ [] = λ said.
-    ap (λ ls. comes_text i.cpus (lines_planned i.plans) ls said) none in
-    d.first
-    ∙ (ap (λ t. plainly 0 (d.front ++ (t ++ d.back)) None) (empty d.one ∙ sym (empty d.other)) ∙ sym d.second)
+    rw none in
+    cc (d.first, empty d.one, empty d.other, d.second)
 
 pub searches_once : SearchesSayOnce
 searches_once states from depth start i v u a b =
@@ -202,5 +189,4 @@ searches_once states from depth start i v u a b =
 pub told_every : EmptyMenusSayEvery
 told_every menu states from depth start i v x none =
     told_usual x.first (image_scope i from) (begun_moment i start) (most_choices depth) states x.found x.count
-    x.verdict (subst (λ ds. IsTold (menu_model x.first (image_menu i from ds)) (begun_moment i start)
-    (most_choices depth) states x.found x.count x.verdict) none x.told)
+    x.verdict (rw none at x.told)

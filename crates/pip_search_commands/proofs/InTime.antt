@@ -87,19 +87,17 @@ module _ (g : Scope) (w : World) (first : Memory) where
   at cs = after_choices (model_of first g) (record { world = w; turns = 0 }) cs
 
   turn_in : (v : World) (k : ℕ) → k < g.cpus → acts_in g v k ≡ turn v k 0
-  turn_in v k lt = ap (λ b. if b then turn v k 0 else Makes (E.Raise (slice_index g.lines (k - g.cpus))) ∷ [])
-      (lt-ltb k g.cpus lt)
+  turn_in v k lt = rw (lt-ltb k g.cpus lt)
 
   raise_in : (v : World) (k : ℕ) → g.cpus ≤ k
       → acts_in g v k ≡ Makes (E.Raise (slice_index g.lines (k - g.cpus))) ∷ []
-  raise_in v k le = ap (λ b. if b then turn v k 0 else Makes (E.Raise (slice_index g.lines (k - g.cpus))) ∷ [])
-      (le-ltb k g.cpus le)
+  raise_in v k le = rw (le-ltb k g.cpus le)
 
   one_turn : (c : ℕ) (cs : List ℕ) → c < g.cpus → turns_made_by g.cpus (c ∷ cs) ≡ suc (turns_made_by g.cpus cs)
-  one_turn c cs lt = ap (λ b. if b then suc (turns_made_by g.cpus cs) else turns_made_by g.cpus cs) (lt-ltb c g.cpus lt)
+  one_turn c cs lt = rw (lt-ltb c g.cpus lt)
 
   no_turn : (c : ℕ) (cs : List ℕ) → g.cpus ≤ c → turns_made_by g.cpus (c ∷ cs) ≡ turns_made_by g.cpus cs
-  no_turn c cs le = ap (λ b. if b then suc (turns_made_by g.cpus cs) else turns_made_by g.cpus cs) (le-ltb c g.cpus le)
+  no_turn c cs le = rw (le-ltb c g.cpus le)
 
   -- an order that keeps the time leads to the world to which choices lead, and has as many turns as they count
   record Ordered (cs : List ℕ) : Type 0 where
@@ -115,26 +113,25 @@ module _ (g : Scope) (w : World) (first : Memory) where
   unfolding again
   idle_again zero c os lt idle = refl
   idle_again (suc n) c os lt idle =
-      ap (λ v. after_acts v (acts_in g v c)) (idle_again n c os lt idle)
-      ∙ (ap (after_acts (world_in g w os)) (turn_in (world_in g w os) c lt) ∙ idle_turn (world_in g w os) c idle)
+      cc (idle_again n c os lt idle, turn_in (world_in g w os) c lt, idle_turn (world_in g w os) c idle)
 
   can_again : (n c : ℕ) (os : List ℕ) → c < g.cpus → AllByRecursion (λ c. c < g.cpus + length g.lines) os
       → AllByRecursion (λ c. c < g.cpus + length g.lines) (again n c os)
   unfolding again
   can_again zero c os lt h = h
-  can_again (suc n) c os lt h = (omega (arith, lt), can_again n c os lt h)
+  can_again (suc n) c os lt h = (omega arith, can_again n c os lt h)
 
   keeps_again : (n c : ℕ) (os : List ℕ) → c < g.cpus → KeepsTime g os → KeepsTime g (again n c os)
   unfolding again
   keeps_again zero c os lt h = h
-  keeps_again (suc n) c os lt h = ((λ le. absurd (omega (arith, lt, le))), keeps_again n c os lt h)
+  keeps_again (suc n) c os lt h = ((λ le. absurd (omega arith)), keeps_again n c os lt h)
 
   count_again : (n c : ℕ) (os : List ℕ) → c < g.cpus → n ≤ turns_made_by g.cpus (again n c os)
   unfolding again
   count_again zero c os lt = omega arith
   count_again (suc n) c os lt =
       let h : n ≤ turns_made_by g.cpus (again n c os) = count_again n c os lt in
-      subst (λ k. suc n ≤ k) (sym (one_turn c (again n c os) lt)) (omega (arith, h))
+      rw (one_turn c (again n c os) lt) (omega (arith, h))
 
   turned : (c : ℕ) (cs : List ℕ) → c < g.cpus → Ordered cs → Ordered (c ∷ cs)
   turned c cs lt h = go (turn_end (at cs).world c) refl
@@ -149,26 +146,23 @@ module _ (g : Scope) (w : World) (first : Memory) where
           → turns_after g.from (at cs).turns e ≤ suc (turns_made_by g.cpus h.order) → Ordered (c ∷ cs)
       once e q few = record {
         order = c ∷ h.order;
-        can = (omega (arith, lt), h.can);
-        keeps = ((λ le. absurd (omega (arith, lt, le))), h.keeps);
+        can = (omega arith, h.can);
+        keeps = ((λ le. absurd (omega arith)), h.keeps);
         world = after ∙ ap (after_acts (world_in g w h.order)) (sym (turn_in (world_in g w h.order) c lt));
-        count = subst (λ n. n ≤ turns_made_by g.cpus (c ∷ h.order))
-            (sym (more_turns g (at cs) c lt ∙ ap (turns_after g.from (at cs).turns) q))
-            (subst (λ n. turns_after g.from (at cs).turns e ≤ n) (sym (one_turn c h.order lt)) few);
+        count = rw (more_turns g (at cs) c lt, q) (subst (λ n. turns_after g.from (at cs).turns e ≤ n)
+            (sym (one_turn c h.order lt)) few);
       }
 
       go : (e : TurnEnd) → turn_end (at cs).world c ≡ e → Ordered (c ∷ cs)
       go (N.Polled O.Idle) q =
           let idle : turn_end (world_in g w h.order) c ≡ N.Polled O.Idle =
-          ap (λ v. turn_end v c) (sym h.world) ∙ q in
+          cc (h.world) in
           record {
             order = again g.from c h.order;
             can = can_again g.from c h.order lt h.can;
             keeps = keeps_again g.from c h.order lt h.keeps;
-            world = after ∙ (idle_turn (world_in g w h.order) c idle ∙ sym (idle_again g.from c h.order lt idle));
-            count = subst (λ n. n ≤ turns_made_by g.cpus (again g.from c h.order))
-                (sym (more_turns g (at cs) c lt ∙ ap (turns_after g.from (at cs).turns) q))
-                (count_again g.from c h.order lt);
+            world = rw (after, idle_turn (world_in g w h.order) c idle, ← idle_again g.from c h.order lt idle);
+            count = rw (more_turns g (at cs) c lt, q) (count_again g.from c h.order lt);
           }
       go e q = once e q (at_most_one g.from (at cs).turns (turns_made_by g.cpus h.order) h.count)
 
@@ -180,18 +174,15 @@ module _ (g : Scope) (w : World) (first : Memory) where
           order = h.order;
           can = h.can;
           keeps = h.keeps;
-          world = ap (λ m. m.world) same ∙ h.world;
-          count = subst (λ n. n ≤ turns_made_by g.cpus h.order) (sym (ap (λ m. m.turns) same)) h.count;
+          world = cc (h.world);
+          count = rw (← same) at h.count;
         }
     | inr late ↦ record {
       order = c ∷ h.order;
       can = (can, h.can);
-      keeps = ((λ x. omega (arith, late, h.count)), h.keeps);
-      world = ap (after_acts (at cs).world) (raise_chosen g (at cs) c le late)
-          ∙ (ap (λ v. after_acts v (Makes (E.Raise (slice_index g.lines (c - g.cpus))) ∷ [])) h.world
-          ∙ ap (after_acts (world_in g w h.order)) (sym (raise_in (world_in g w h.order) c le)));
-      count = subst (λ n. n ≤ turns_made_by g.cpus (c ∷ h.order)) (sym (same_turns g (at cs) c le))
-          (subst (λ n. (at cs).turns ≤ n) (sym (no_turn c h.order le)) h.count);
+      keeps = ((λ x. omega arith), h.keeps);
+      world = cc (raise_chosen g (at cs) c le late, h.world, raise_in (world_in g w h.order) c le);
+      count = rw (same_turns g (at cs) c le) (subst (λ n. (at cs).turns ≤ n) (sym (no_turn c h.order le)) h.count);
     }
   ]
 
@@ -212,13 +203,12 @@ module _ (g : Scope) (w : World) (first : Memory) where
           last = c;
           before = h.order;
           can = (can.0, h.can);
-          keeps = ((λ le. absurd (omega (arith, lt, le))), h.keeps);
-          shows = is ∙ (ap text_of (turn_chosen g (at cs) c lt) ∙ (ap (λ v. text_of (turn v c 0)) h.world
-              ∙ ap text_of (sym (turn_in (world_in g w h.order) c lt))));
+          keeps = ((λ le. absurd (omega arith)), h.keeps);
+          shows = cc (turn_chosen g (at cs) c lt, h.world, turn_in (world_in g w h.order) c lt);
         }
     | inr le ↦ absurd (some (is ∙ elim (cases_lt (at cs).turns g.from) [
       | inl early ↦ (nothing_chosen g (at cs) c le early).1
-      | inr late ↦ ap text_of (raise_chosen g (at cs) c le late)
+      | inr late ↦ rw (raise_chosen g (at cs) c le late)
     ]))
   ]
 

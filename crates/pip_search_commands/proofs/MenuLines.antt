@@ -1,6 +1,6 @@
 -- A line of a menu, word by word.
 use Rattle.std.proofs.Common.{◌≡◌, ℕ, ◌+◌, ◌-◌, ◌≤◌, ◌<◌, ◌==◌, Bool, true, false, cond, List, [], ◌∷◌, ◌++◌, length}
-use Rattle.std.proofs.Common.{Option, Some, None, Ok, Err, refl, sym, ap, ◌∙◌, length-append, length-drop, arith}
+use Rattle.std.proofs.Common.{Option, Some, None, Ok, Err, refl, sym, length-append, length-drop, arith}
 use Rattle.std.specs.Prelude.{codes, option_and_then}
 use Rattle.std.specs.Str.{bytes_eq}
 use Rattle.std.proofs.lemmas.Bool.{cond-true, eqb-true, le-leb}
@@ -24,7 +24,7 @@ word_then [] = refl
 word_then (b ∷ bs) =
     elim (b == 32) as (λ t. cond t [] (b ∷ first_word bs) ++ cond t (b ∷ bs) (after_word bs) ≡ b ∷ bs) [
       | true ↦ refl
-      | false ↦ ap (λ k. b ∷ k) (word_then bs)
+      | false ↦ rw (word_then bs)
     ]
 
 -- a word stays one with a space after it
@@ -34,8 +34,7 @@ first_stays (b ∷ bs) more =
     elim (b == 32) as (λ t. (b == 32) ≡ t
     → first_word (cond t [] (b ∷ first_word bs) ++ 32 ∷ more) ≡ cond t [] (b ∷ first_word bs)) [
       | true ↦ λ e. refl
-      | false ↦ λ e. ap (λ t. cond t [] (b ∷ first_word (first_word bs ++ 32 ∷ more))) e
-          ∙ ap (λ k. b ∷ k) (first_stays bs more)
+      | false ↦ λ e. rw (e, first_stays bs more)
     ] refl
 
 after_stays : (xs more : List ℕ) → after_word (first_word xs ++ 32 ∷ more) ≡ 32 ∷ more
@@ -43,15 +42,14 @@ after_stays [] more = refl
 after_stays (b ∷ bs) more =
     elim (b == 32) as (λ t. (b == 32) ≡ t → after_word (cond t [] (b ∷ first_word bs) ++ 32 ∷ more) ≡ 32 ∷ more) [
       | true ↦ λ e. refl
-      | false ↦ λ e. ap (λ t. cond t (b ∷ (first_word bs ++ 32 ∷ more)) (after_word (first_word bs ++ 32 ∷ more))) e
-          ∙ after_stays bs more
+      | false ↦ λ e. rw (e, after_stays bs more)
     ] refl
 
 -- what follows a word begins with a space, or is nothing
 no_word : (xs : List ℕ) → first_word (after_word xs) ≡ []
 no_word [] = refl
 no_word (b ∷ bs) = elim (b == 32) as (λ t. (b == 32) ≡ t → first_word (cond t (b ∷ bs) (after_word bs)) ≡ []) [
-  | true ↦ λ e. ap (λ t. cond t [] (b ∷ first_word bs)) e
+  | true ↦ λ e. rw e
   | false ↦ λ e. no_word bs
 ] refl
 
@@ -60,7 +58,7 @@ after_same [] = refl
 after_same (b ∷ bs) =
     elim (b == 32) as (λ t. (b == 32) ≡ t → after_word (cond t (b ∷ bs) (after_word bs)) ≡ cond t (b ∷ bs) (after_word
     bs)) [
-      | true ↦ λ e. ap (λ t. cond t (b ∷ bs) (after_word bs)) e
+      | true ↦ λ e. rw e
       | false ↦ λ e. after_same bs
     ] refl
 
@@ -74,29 +72,32 @@ with_cpu_is xs = append_of (first_word xs) (after_word xs)
   where
     append_of : (w r : List ℕ) → (w ++ codes " 0") ++ r ≡ w ++ 32 ∷ (48 ∷ r)
     append_of [] r = refl
-    append_of (b ∷ w) r = ap (λ k. b ∷ k) (append_of w r)
+    append_of (b ∷ w) r = rw (append_of w r)
 
 words_with_cpu : (xs : List ℕ) → words_of (with_cpu xs) ≡ first_word xs ∷ codes "0" ∷ words_after (after_word xs)
 words_with_cpu xs =
     let rest = after_word xs in
-    let zero_word : first_word (48 ∷ rest) ≡ 48 ∷ [] = ap (λ k. 48 ∷ k) (no_word xs) in
-    ap words_of (with_cpu_is xs)
-    ∙ words_split (first_word xs ++ 32 ∷ (48 ∷ rest))
-    ∙ (ap (λ w. w ∷ words_after (after_word (first_word xs ++ 32 ∷ (48 ∷ rest)))) (first_stays xs (48 ∷ rest))
-    ∙ (ap (λ r. first_word xs ∷ words_after r) (after_stays xs (48 ∷ rest))
-    ∙ (ap (λ ws. first_word xs ∷ ws) (words_split (48 ∷ rest))
-    ∙ (ap (λ w. first_word xs ∷ w ∷ words_after (after_word rest)) zero_word
-    ∙ ap (λ r. first_word xs ∷ (48 ∷ []) ∷ words_after r) (after_same xs)))))
+    let zero_word : first_word (48 ∷ rest) ≡ 48 ∷ [] = rw (no_word xs) in
+    rw (
+      with_cpu_is xs,
+      words_split (first_word xs ++ 32 ∷ (48 ∷ rest)),
+      first_stays xs (48 ∷ rest),
+      after_stays xs
+          (48 ∷ rest),
+      words_split (48 ∷ rest),
+      zero_word,
+      after_same xs,
+    )
 
 pub size_with_cpu : (xs : List ℕ) → length (with_cpu xs) ≡ length xs + 2
 size_with_cpu xs =
     let whole : length xs ≡ length (first_word xs) + length (after_word xs) =
-    sym (ap length (word_then xs)) ∙ length-append (first_word xs) (after_word xs) in
+    cc (word_then xs, length-append (first_word xs) (after_word xs)) in
     let all : length (with_cpu xs) ≡ length (first_word xs ++ codes " 0") + length (after_word xs) =
     length-append (first_word xs ++ codes " 0") (after_word xs) in
     let front : length (first_word xs ++ codes " 0") ≡ length (first_word xs) + 2 =
     length-append (first_word xs) (codes " 0") in
-    omega (arith, whole, all, front)
+    omega arith
 
 -- no line begins with the sign of a remark
 no_remark : (w : List ℕ) (os : List (List ℕ)) → option_and_then line_deed (phrase 1 ((35 ∷ w) ∷ os)) ≡ None
@@ -110,15 +111,15 @@ no_remark w os = go (numbers_of os)
 meaning_or_blank : (bs : List ℕ) (w : List ℕ) (os : List (List ℕ)) → words_of bs ≡ w ∷ os → w ≡ first_word bs
     → option_and_then line_deed (phrase_or_blank 1 bs) ≡ option_and_then line_deed (phrase 1 (w ∷ os))
 meaning_or_blank [] w os words first = let e : ◌≡◌ {A = List (List ℕ)} ([] ∷ []) (w ∷ os) = words in
-    ap (λ ws. option_and_then line_deed (phrase 1 ws)) e
+    cc
 meaning_or_blank (b ∷ bs) w os words first = elim (b == 35) as (λ t. (b == 35) ≡ t
     → option_and_then line_deed (cond t (Some L.Blank) (phrase 1 (words_of (b ∷ bs))))
     ≡ option_and_then line_deed (phrase 1 (w ∷ os))) [
       | true ↦ λ e.
           let is : b ≡ 35 = eqb-true b 35 e in
-          let front : w ≡ 35 ∷ first_word bs = first ∙ ap (λ x. first_word (x ∷ bs)) is in
-          sym (ap (λ v. option_and_then line_deed (phrase 1 (v ∷ os))) front ∙ no_remark (first_word bs) os)
-      | false ↦ λ e. ap (λ ws. option_and_then line_deed (phrase 1 ws)) words
+          let front : w ≡ 35 ∷ first_word bs = rw (first, is) in
+          rw (← no_remark (first_word bs) os, ← front)
+      | false ↦ λ e. rw words
     ] refl
 
 pub deed_is : (xs : List ℕ) → length xs ≤ 118
@@ -126,20 +127,20 @@ pub deed_is : (xs : List ℕ) → length xs ≤ 118
 deed_is xs short =
     let size = size_with_cpu xs in
     let whole : line_meaning 1 (with_cpu xs) ≡ phrase_or_blank 1 (with_cpu xs) =
-    cond-true _ _ _ (le-leb (length (with_cpu xs)) 120 (omega (arith, size, short))) in
+    cond-true _ _ _ (le-leb (length (with_cpu xs)) 120 (omega arith)) in
     let first : first_word xs ≡ first_word (with_cpu xs) =
-    sym (ap first_word (with_cpu_is xs) ∙ first_stays xs (48 ∷ after_word xs)) in
-    ap (option_and_then line_deed) whole
-    ∙ (meaning_or_blank (with_cpu xs) (first_word xs) (codes "0" ∷ words_after (after_word xs)) (words_with_cpu xs)
-    first ∙ ap deed_of (sym (words_split xs)))
+    cc (first_stays xs (48 ∷ after_word xs), with_cpu_is xs) in
+    cc (
+      meaning_or_blank (with_cpu xs) (first_word xs) (codes "0" ∷ words_after (after_word xs)) (words_with_cpu xs)
+          first,
+      words_split xs,
+    )
 
 -- and they are put together from the two
 pub built : (none one two three word rest text : List ℕ) → none ≡ [] → one ≡ none ++ word → two ≡ one ++ codes " 0"
     → three ≡ two ++ rest → word ≡ first_word text → rest ≡ after_word text → three ≡ with_cpu text
 built none one two three word rest text empty a b c is after =
-    c
-    ∙ (ap (λ x. x ++ rest) (b ∙ ap (λ x. x ++ codes " 0") (a ∙ ap (λ x. x ++ word) empty))
-    ∙ (ap (λ x. (x ++ codes " 0") ++ rest) is ∙ ap (λ x. (first_word text ++ codes " 0") ++ x) after))
+    rw (c, b, a, empty, is, after)
 
 -- ---- who, and what
 
@@ -156,38 +157,36 @@ pub rest_short : (line who what : List ℕ) → length line ≤ 120 → who ≡ 
     → 1 ≤ length who → 1 ≤ length what → length (tail_of what) ≤ 118
 rest_short line who what short word rest some more =
     let whole : length line ≡ length (first_word line) + length (after_word line) =
-    sym (ap length (word_then line)) ∙ length-append (first_word line) (after_word line) in
-    let front : length who ≡ length (first_word line) = ap length word in
-    let back : length what ≡ length (after_word line) = ap length rest in
+    cc (word_then line, length-append (first_word line) (after_word line)) in
+    let front : length who ≡ length (first_word line) = rw word in
+    let back : length what ≡ length (after_word line) = rw rest in
     let tail : length (tail_of what) ≡ length what - 1 =
-    ap length (take_rest what 1) ∙ length-drop 1 what in
-    omega (arith, whole, front, back, tail, short, some, more)
+    rw (take_rest what 1, length-drop 1 what) in
+    omega arith
 
 -- what the words of a line say, by its first word and what follows
 pub said_is : (line who what : List ℕ) → who ≡ first_word line → what ≡ after_word line
     → said_by (words_of line) ≡ may_of (who_of who) (deed_of (words_after what))
 said_is line who what word rest =
-    ap said_by (words_split line)
-    ∙ (ap (λ w. may_of (who_of w) (deed_of (words_after (after_word line)))) (sym word)
-    ∙ ap (λ r. may_of (who_of who) (deed_of (words_after r))) (sym rest))
+    rw (words_split line, ← word, ← rest)
 
 pub words_behind : (what : List ℕ) → 1 ≤ length what → words_of (tail_of what) ≡ words_after what
-words_behind what some = words_split (tail_of what) ∙ sym (words_from what some)
+words_behind what some = cc (words_split (tail_of what), words_from what some)
 
 pub no_words : (what : List ℕ) → length what < 1 → words_after what ≡ []
 no_words [] few = refl
-no_words (b ∷ bs) few = absurd (omega (arith, few))
+no_words (b ∷ bs) few = absurd (omega arith)
 
 pub who_fails : (o : Option (Option ℕ)) (d : Option Deed) → o ≡ None → may_of o d ≡ Err K.Who
-who_fails o d is = ap (λ x. may_of x d) is
+who_fails o d is = rw is
 
 pub what_fails : (who : Option ℕ) (o : Option (Option ℕ)) (d : Option Deed) → Some who ≡ o → d ≡ None
     → may_of o d ≡ Err K.What
-what_fails who o d is none = ap (λ x. may_of x d) (sym is) ∙ ap (may_of (Some who)) none
+what_fails who o d is none = rw (← is, none)
 
 pub both_said : (who : Option ℕ) (deed : Deed) (o : Option (Option ℕ)) (d : Option Deed) → Some who ≡ o → Some deed ≡ d
     → may_of o d ≡ Ok (record { name = who; deed = deed })
-both_said who deed o d is said = ap (λ x. may_of x d) (sym is) ∙ ap (may_of (Some who)) (sym said)
+both_said who deed o d is said = rw (← is, ← said)
 
 -- ---- labels
 
@@ -197,8 +196,8 @@ question_size word q e = go (bytes_eq word (codes "again")) (bytes_eq word (code
   where
     go : (a b : Bool) → bytes_eq word (codes "again") ≡ a → bytes_eq word (codes "comes") ≡ b
         → cond a (Some Q.Again) (cond b (Some Q.Comes) None) ≡ Some q → length word ≡ 5
-    go true b is other said = ap length ((bytes_eq-Decides word (codes "again")).0 is)
-    go false true not is said = ap length ((bytes_eq-Decides word (codes "comes")).0 is)
+    go true b is other said = rw ((bytes_eq-Decides word (codes "again")).0 is)
+    go false true not is said = rw ((bytes_eq-Decides word (codes "comes")).0 is)
     go false false not other said = cc
 
 -- a label is shorter than its line, by this word and a space
@@ -206,16 +205,16 @@ pub label_short : (line word rest label : List ℕ) (q : Question) → length li
     → rest ≡ after_word line → Some q ≡ question_of word → label_said rest ≡ Ok label → length label ≤ 114
 label_short line word rest label q short front back is said =
     let whole : length line ≡ length (first_word line) + length (after_word line) =
-    sym (ap length (word_then line)) ∙ length-append (first_word line) (after_word line) in
-    let five : length (first_word line) ≡ 5 = ap length (sym front) ∙ question_size word q (sym is) in
-    let same : length rest ≡ length (after_word line) = ap length back in
+    cc (word_then line, length-append (first_word line) (after_word line)) in
+    let five : length (first_word line) ≡ 5 = rw (← front, question_size word q (sym is)) in
+    let same : length rest ≡ length (after_word line) = rw back in
     let own : length rest ≡ length label + 1 = go rest said in
-    omega (arith, whole, five, same, own, short)
+    omega arith
   where
     go : (rest : List ℕ) → label_said rest ≡ Ok label → length rest ≡ length label + 1
     go [] e = cc
     go (s ∷ []) e = cc
     go (s ∷ (b ∷ bs)) e =
         let same : b ∷ bs ≡ label = cc in
-        let count : length (b ∷ bs) ≡ length label = ap length same in
-        omega (arith, count)
+        let count : length (b ∷ bs) ≡ length label = cc in
+        omega arith

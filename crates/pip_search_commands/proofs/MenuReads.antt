@@ -1,10 +1,10 @@
 -- How a menu is read, line by line.
 use Rattle.std.proofs.Common.{◌≡◌, ℕ, ◌+◌, ◌-◌, ◌*◌, ◌^◌, ◌≤◌, ◌<◌, inl, inr, Option, List, [], ◌∷◌, ◌++◌}
-use Rattle.std.proofs.Common.{length, take, drop, Ok, Err, refl, sym, ap, ◌∙◌, subst, append-nil, append_assoc, arith}
+use Rattle.std.proofs.Common.{length, take, drop, Ok, Err, refl, sym, ap, subst, append-nil, append_assoc, arith}
 use Rattle.std.proofs.Common.{length-append, nat_le, nat_lt, cond, ◌&&◌, Bool, true, false}
 use Rattle.std.specs.Prelude.{Result}
 use Rattle.std.specs.Io.KnownBytes.{Consumes, Keeps, prepend_known}
-use Rattle.std.proofs.KnownBytes.{Consumes-nil, Consumes-trans, Keeps-refl, prepend_known-nil}
+use Rattle.std.proofs.KnownBytes.{Consumes-trans, Keeps-refl}
 use Rattle.std.proofs.lemmas.Bool.{leb-true}
 use Rattle.std.proofs.lemmas.List.{length-take-le, take-append-drop, take_all}
 use Rattle.pip_core_text.specs.CoreRead.{AreWholeLines}
@@ -16,7 +16,7 @@ use Rattle.pip_input.proofs.Taking.{all_read, line_split, took_line}
 use Rattle.pip_model.specs.Grammar.{lines_of}
 use Rattle.pip_search_commands.specs.MenuReading.{BeginsMenu, TakesBadLine, TakesGoodLines, TakesMenu}
 use Rattle.pip_search_commands.specs.MenuText.{Asks, Does, Frees, MenuSaid, Nothing, Said, any_said, can_add}
-use Rattle.pip_search_commands.specs.MenuText.{goes_on_after, line_said, menu_from, menu_of, no_menu, with_freedom}
+use Rattle.pip_search_commands.specs.MenuText.{goes_on_after, line_said, menu_from, menu_of, with_freedom}
 use Rattle.pip_search_commands.specs.MenuText.{with_line, with_question}
 use Rattle.pip_search_commands.specs.declared.commands.against.menu_line.MenuKind.{MenuKind}
 use Rattle.pip_search_commands.specs.declared.commands.against.menu_line.MenuKind.TheVariants.{Long, Many}
@@ -27,13 +27,13 @@ use Rattle.pip_search_commands.specs.declared.commands.against.menu_line.MenuKin
 came_to : (n : ℕ) (menu : MenuSaid) (line : List ℕ) (lines : List (List ℕ)) (r : Result MenuSaid MenuKind)
     → with_line n menu (line_said line) ≡ r
     → menu_from n menu (line ∷ lines) ≡ goes_on_after n r (λ more. menu_from (n + 1) more lines)
-came_to n menu line lines r is = ap (λ r. goes_on_after n r (λ more. menu_from (n + 1) more lines)) is
+came_to n menu line lines r is = rw is
 
 long_said : (line : List ℕ) → 120 < length line → line_said line ≡ Err Long
 long_said line long = go (nat_le (length line) 120) refl
   where
     go : (b : Bool) → nat_le (length line) 120 ≡ b → cond b (any_said line) (Err Long) ≡ Err Long
-    go true e = let l = leb-true (length line) 120 e in absurd (omega (arith, long, l))
+    go true e = let l = leb-true (length line) 120 e in absurd (omega arith)
     go false e = refl
 
 -- where there is room, too
@@ -57,7 +57,7 @@ pub record IsAtLine (n : ℕ) (menu : MenuSaid) (held : List ℕ) (left left' : 
 module _ (n : ℕ) (menu : MenuSaid) (held : List ℕ) (left a : Option (List ℕ)) (at : IsAtLine n menu held left a) where
   -- the lines are a menu that says this
   pub told_lines : menu_of at.lines ≡ Ok menu
-  told_lines = ap menu_of (sym (append-nil at.lines)) ∙ at.told []
+  told_lines = rw (← append-nil at.lines, at.told [])
 
   -- with what is held they were read
   pub read_held : Consumes left a (at.lines ++ held)
@@ -79,9 +79,8 @@ module _ (n : ℕ) (menu : MenuSaid) (held : List ℕ) (left a : Option (List �
   pub begins_menu : (i : Held) → i.bytes ≡ held → (bytes : List ℕ) → IsLineless i bytes
       → BeginsMenu ((at.lines ++ held) ++ bytes)
   begins_menu i is bytes none =
-      subst BeginsMenu (sym (append_assoc at.lines held bytes))
-      (good_lines (held ++ bytes) (subst (λ h. HasNoNewline (h ++ bytes)) is none.plain)
-      (subst (λ h. length (h ++ bytes) ≤ 120) is none.short))
+      rw (append_assoc at.lines held bytes) (good_lines (held ++ bytes)
+      (subst (λ h. HasNoNewline (h ++ bytes)) is none.plain) (subst (λ h. length (h ++ bytes) ≤ 120) is none.short))
 
 -- ---- what stands at the head: i was held before, and j is now
 
@@ -93,7 +92,7 @@ module _ (n : ℕ) (menu : MenuSaid) (i j : Held) (left a b : Option (List ℕ))
 
   told_after : (bytes rest : List ℕ) → menu_of ((at.lines ++ bytes) ++ rest)
       ≡ menu_from n menu (lines_of (bytes ++ rest))
-  told_after bytes rest = ap menu_of (append_assoc at.lines bytes rest) ∙ at.told (bytes ++ rest)
+  told_after bytes rest = rw (append_assoc at.lines bytes rest, at.told (bytes ++ rest))
 
   -- a read failed
   pub unread : HoldsPart (still i) j → TakesGoodLines left b
@@ -109,32 +108,34 @@ module _ (n : ℕ) (menu : MenuSaid) (i j : Held) (left a b : Option (List ℕ))
     bytes = at.lines ++ j.bytes;
     taken = read_all;
     ended = holds.2;
-    is = at.told j.bytes ∙ ap (λ h. menu_from n menu (lines_of h)) holds.1;
+    is = rw (at.told j.bytes, holds.1);
   }
 
   -- a line is too long
   pub too_long : HoldsLine (still i) j b TooLong → TakesBadLine left b (record { line = n; kind = Long })
   too_long holds =
       let front = take 121 j.bytes in
-      let size : length front ≡ 121 = length-take-le 121 j.bytes (let l = holds.1 in omega (arith, l)) in
+      let size : length front ≡ 121 = length-take-le 121 j.bytes (omega arith) in
       record {
         bytes = at.lines ++ j.bytes;
         taken = read_all;
         is = inl (λ rest.
             let line : Begins front (lines_of (front ++ (drop 121 j.bytes ++ rest))) =
-            begins front (drop 121 j.bytes ++ rest) holds.2 (omega (arith, size)) in
+            begins front (drop 121 j.bytes ++ rest) holds.2 (omega arith) in
             let more : length (front ++ line.back) ≡ length front + length line.back = length-append front line.back in
-            told_after j.bytes rest
-            ∙ (ap (λ bs. menu_from n menu (lines_of (bs ++ rest))) (sym (take-append-drop 121 j.bytes))
-            ∙ (ap (λ bs. menu_from n menu (lines_of bs)) (append_assoc front (drop 121 j.bytes) rest)
-            ∙ (ap (menu_from n menu) line.is
-            ∙ came_to n menu (front ++ line.back) line.more (Err Long)
-            (ap (with_line n menu) (long_said (front ++ line.back) (omega (arith, size, more))))))));
+            rw (
+              told_after j.bytes rest,
+              ← take-append-drop 121 j.bytes,
+              append_assoc front (drop 121 j.bytes) rest,
+              line.is,
+              came_to n menu (front ++ line.back) line.more (Err Long)
+                  (ap (with_line n menu) (long_said (front ++ line.back) (omega (arith, size, more)))),
+            ));
       }
 
   -- no lines before it have that many bytes
   pub not_over : n ≤ 65537 → 1 ≤ n → 2 ^ 24 ≤ still i + 121 * (n - 1) → HoldsLine (still i) j b Over → ⊥
-  not_over few some room over = let l = over.limit in let s = over.short in omega (arith, few, some, room, l, s)
+  not_over few some room over = omega arith
 
   -- a line with its newline
   module _ (count : ℕ) (line : List ℕ) (is : line ≡ take count j.bytes)
@@ -142,24 +143,27 @@ module _ (n : ℕ) (menu : MenuSaid) (i j : Held) (left a b : Option (List ℕ))
     short_line : length line ≤ 120
     short_line =
         let inside = holds.2.inside in
-        let size : length line ≡ count = ap length is ∙ length-take-le count j.bytes (omega (arith, inside)) in
-        let few = holds.1 in omega (arith, size, few)
+        let size : length line ≡ count = rw (is, length-take-le count j.bytes (omega (arith, inside))) in
+        omega arith
 
     pub bad_line : (kind : MenuKind) → with_line n menu (line_said line) ≡ Err kind
         → TakesBadLine left b (record { line = n; kind = kind })
     bad_line kind bad =
         let back = drop (count + 1) j.bytes in
         let split : j.bytes ≡ (line ++ 10 ∷ []) ++ back =
-        line_split count j.bytes holds.2 ∙ ap (λ l. (l ++ 10 ∷ []) ++ back) (sym is) in
+        cc (line_split count j.bytes holds.2) in
         let plain = subst HasNoNewline (sym is) holds.2.plain in
         record {
           bytes = at.lines ++ j.bytes;
           taken = read_all;
-          is = inl (λ rest. told_after j.bytes rest
-              ∙ (ap (λ bs. menu_from n menu (lines_of (bs ++ rest))) split
-              ∙ (ap (λ bs. menu_from n menu (lines_of bs)) (append_assoc (line ++ 10 ∷ []) back rest)
-              ∙ (ap (menu_from n menu) (lines_newline line (back ++ rest) plain)
-              ∙ came_to n menu line (lines_of (back ++ rest)) (Err kind) bad))));
+          is = inl (λ rest. rw (
+            told_after j.bytes rest,
+            split,
+            append_assoc (line ++ 10 ∷ []) back rest,
+            lines_newline
+                line (back ++ rest) plain,
+            came_to n menu line (lines_of (back ++ rest)) (Err kind) bad,
+          ));
         }
 
     pub next_line : (more : MenuSaid) (k : Held) → k.bytes ≡ drop (count + 1) j.bytes → k.room ≡ j.room
@@ -171,12 +175,14 @@ module _ (n : ℕ) (menu : MenuSaid) (i j : Held) (left a b : Option (List ℕ))
           lines = at.lines ++ (line ++ 10 ∷ []);
           taken = Consumes-trans left (prepend_known i.bytes a) (prepend_known k.bytes b) at.lines (line ++ 10 ∷ [])
               at.taken
-              (subst (λ l. Consumes (prepend_known i.bytes a) (prepend_known k.bytes b) (l ++ 10 ∷ [])) (sym is)
-              took.taken);
+              (rw is took.taken);
           whole = inr (at.lines ++ line, sym (append_assoc at.lines line (10 ∷ [])));
-          told = λ rest. told_after (line ++ 10 ∷ []) rest
-              ∙ (ap (menu_from n menu) (lines_newline line rest plain)
-              ∙ came_to n menu line (lines_of rest) (Ok more) good);
+          told = λ rest. rw (
+            told_after (line ++ 10 ∷ []) rest,
+            lines_newline line rest plain,
+            came_to n menu line
+                (lines_of rest) (Ok more) good,
+          );
         }
 
     pub room_left : (k : Held) → k.bytes ≡ drop (count + 1) j.bytes → k.room ≡ j.room → 1 ≤ n
@@ -187,22 +193,20 @@ module _ (n : ℕ) (menu : MenuSaid) (i j : Held) (left a b : Option (List ℕ))
         let few = short_line in
         let same : length (take count j.bytes ++ 10 ∷ []) ≡ length (take count j.bytes) + 1 =
         length-append (take count j.bytes) (10 ∷ []) in
-        let line_is : length line ≡ length (take count j.bytes) = ap length is in
-        omega (arith, size, few, same, line_is, some, most)
+        let line_is : length line ≡ length (take count j.bytes) = rw is in
+        omega arith
 
   -- the last line
   module _ (count : ℕ) (line : List ℕ) (is : line ≡ take count j.bytes)
       (holds : HoldsLine (still i) j b (Last count)) where
     last_is : j.bytes ≡ line
-    last_is = let size = holds.1 in sym (is ∙ take_all count j.bytes (omega (arith, size)))
+    last_is = let size = holds.1 in cc (take_all count j.bytes (omega (arith, size)))
 
     last_told : (r : Result MenuSaid MenuKind) → with_line n menu (line_said line) ≡ r
         → menu_of (at.lines ++ j.bytes) ≡ goes_on_after n r (λ more. Ok more)
     last_told r came =
-        let some : 0 < length j.bytes = let size = holds.1 in let more = holds.2 in omega (arith, size, more) in
-        at.told j.bytes
-        ∙ (ap (menu_from n menu) (lines_last j.bytes holds.4 some)
-        ∙ (ap (λ l. menu_from n menu (l ∷ [])) last_is ∙ came_to n menu line [] r came))
+        let some : 0 < length j.bytes = omega arith in
+        rw (at.told j.bytes, lines_last j.bytes holds.4 some, last_is, came_to n menu line [] r came)
 
     pub last_menu : (more : MenuSaid) → with_line n menu (line_said line) ≡ Ok more → TakesMenu left b more
     last_menu more good = record {

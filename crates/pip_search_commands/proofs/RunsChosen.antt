@@ -1,6 +1,6 @@
 -- Runs are choices: each step of a run is the raises that are due, and then a turn.
 use Rattle.std.proofs.Common.{◌≡◌, ◌≢◌, ℕ, zero, suc, ◌+◌, ◌-◌, ◌<◌, ◌≤◌, inl, inr, min, List, [], ◌∷◌, ◌++◌}
-use Rattle.std.proofs.Common.{Bool, true, false, length, Option, None, Some, refl, sym, ap, ap₂, ◌∙◌, subst, arith}
+use Rattle.std.proofs.Common.{Bool, true, false, length, Option, None, Some, refl, sym, ap, ap₂, subst, arith}
 use Rattle.std.proofs.Common.{append-nil, append_assoc, slice_index, nat_lt, if◌then◌else◌}
 use Rattle.std.proofs.lemmas.Bool.{cases_lt}
 use Rattle.std.proofs.lemmas.Bool.Decides.{nat_tests}
@@ -17,11 +17,10 @@ use Rattle.pip_model.specs.Acts.{Act, Makes, Writes, after_acts, events_made, te
 use Rattle.pip_model.specs.Due.{is_due}
 use Rattle.pip_model.specs.Effects.{word_effect}
 use Rattle.pip_model.specs.Events as E
-use Rattle.pip_model.specs.Happens.{after}
 use Rattle.pip_model.specs.InstrRead.{instr_of}
 use Rattle.pip_model.specs.Images.{Image}
 use Rattle.pip_model.specs.Lists.{In}
-use Rattle.pip_model.specs.Run.{end_line, image_world, raises, schedule, step, steps, trace_image_line}
+use Rattle.pip_model.specs.Run.{image_world, raises, schedule, step, steps, trace_image_line}
 use Rattle.pip_model.specs.Turn.{acts_after_fetch, acts_after_poll, effect_acts, fetch_acts, load_acts, outcome_of}
 use Rattle.pip_model.specs.Turn.{store_acts, turn, turn_end, word_acts, world_of}
 use Rattle.pip_model.specs.Worlds.{World, runs_on}
@@ -72,9 +71,9 @@ effect_events w t cpu x (F.Sets a v) = refl
 effect_events w t cpu x (F.Goes pc) = refl
 effect_events w t cpu x (F.Links a pc) = refl
 effect_events w t cpu x (F.Loads a va size) =
-    ap (λ es. E.Load cpu va size ∷ es) (load_events t cpu x a (outcome_of w (E.Load cpu va size)))
+    rw (load_events t cpu x a (outcome_of w (E.Load cpu va size)))
 effect_events w t cpu x (F.Stores va v size) =
-    ap (λ es. E.Store cpu va size v ∷ es) (store_events t cpu x (outcome_of w (E.Store cpu va size v)))
+    rw (store_events t cpu x (outcome_of w (E.Store cpu va size v)))
 effect_events w t cpu x (F.Traps k a b) = refl
 effect_events w t cpu x (F.Interrupts k) = refl
 effect_events w t cpu x (F.Calls n) = refl
@@ -95,8 +94,7 @@ fetched_events w t cpu (O.Parked from k) = refl
 fetched_events w t cpu O.Idle = refl
 
 fetch_events : (w : World) (t cpu : ℕ) → events_made (fetch_acts w t cpu) ≡ events_made (fetch_acts w 0 cpu)
-fetch_events w t cpu = ap (λ es. E.Fetch cpu ∷ es)
-    (fetched_events (world_of w (E.Fetch cpu)) t cpu (outcome_of w (E.Fetch cpu)))
+fetch_events w t cpu = rw (fetched_events (world_of w (E.Fetch cpu)) t cpu (outcome_of w (E.Fetch cpu)))
 
 polled_events : (w : World) (t cpu : ℕ) (o : Outcome)
     → events_made (acts_after_poll w t cpu o) ≡ events_made (acts_after_poll w 0 cpu o)
@@ -109,11 +107,11 @@ polled_events w t cpu (O.Parked from k) = fetch_events w t cpu
 
 pub turn_events : (w : World) (cpu t : ℕ) → events_made (turn w cpu t) ≡ events_made (turn w cpu 0)
 turn_events w cpu t =
-    ap (λ es. E.Poll cpu ∷ es) (polled_events (world_of w (E.Poll cpu)) t cpu (outcome_of w (E.Poll cpu)))
+    rw (polled_events (world_of w (E.Poll cpu)) t cpu (outcome_of w (E.Poll cpu)))
 
 events-append : (xs ys : List Act) → events_made (xs ++ ys) ≡ events_made xs ++ events_made ys
 events-append [] ys = refl
-events-append (Makes e ∷ xs) ys = ap (λ es. e ∷ es) (events-append xs ys)
+events-append (Makes e ∷ xs) ys = rw (events-append xs ys)
 events-append (Writes l ∷ xs) ys = events-append xs ys
 
 -- ---- one choice more
@@ -129,15 +127,15 @@ place_in x [] i = absurd i
 place_in x (y ∷ ys) (inl e) = record { place = 0; within = omega arith; is = sym e }
 place_in x (y ∷ ys) (inr i) =
     let s : StandsAt ys x = place_in x ys i in
-    record { place = suc s.place; within = omega (arith, s.within); is = s.is }
+    record { place = suc s.place; within = omega arith; is = s.is }
 
 -- a line that is due after step t0 is so after all of the quiet steps
 pub due_late : (t0 from : ℕ) (p : Plan) (t : ℕ) → IsQuietIn t0 from p → t0 ≤ t → is_due p t ≡ true → from ≤ t - t0
 due_late t0 from p t quiet since due = elim (cases_lt t (t0 + from)) [
   | inl early ↦
-      let z : true ≡ false = sym due ∙ quiet t since early in
+      let z : true ≡ false = cc (quiet t since early) in
       absurd cc
-  | inr late ↦ omega (arith, late)
+  | inr late ↦ omega arith
 ]
 
 -- after a turn one more was made, as far as they are counted
@@ -148,8 +146,8 @@ late_after : (t0 from n t : ℕ) (e : TurnEnd) → t0 ≤ t → min (t - t0) fro
     → min ((t + 1) - t0) from ≤ turns_after from n e
 late_after t0 from n t (N.Polled O.Idle) since h = omega arith
 late_after t0 from n t e since h =
-    let one : (t - t0) + 1 ≡ (t + 1) - t0 = omega (arith, since) in
-    subst (λ k. min k from ≤ (if nat_lt n from then suc n else n)) one (counted from n (t - t0) h)
+    let one : (t - t0) + 1 ≡ (t + 1) - t0 = omega arith in
+    rw (← one) (counted from n (t - t0) h)
 
 module _ (first : Memory) (g : Scope) (m : Moment) (t0 : ℕ) where
   -- the moment after choices
@@ -167,13 +165,22 @@ module _ (first : Memory) (g : Scope) (m : Moment) (t0 : ℕ) where
       → events_made new ≡ events_made (choice_acts g (at h.choices) c) → AreChosen first g m (k + 1) (acts ++ new)
   more acts new c k h can same = record {
     choices = c ∷ h.choices;
-    count = omega (arith, h.count);
+    count = omega arith;
     can = (can, h.can);
-    events = events-append acts new ∙ (ap₂ (λ a b. a ++ b) h.events same
-        ∙ sym (events-append (acts_chosen first g m h.choices) (choice_acts g (at h.choices) c)));
-    world = after-append m.world acts new ∙ (ap (λ w. after_acts w new) h.world
-        ∙ (after-events (at h.choices).world new ∙ (ap (after (at h.choices).world) same
-        ∙ sym (after-events (at h.choices).world (choice_acts g (at h.choices) c)))));
+    events = rw (
+      events-append acts new,
+      ap₂ (λ a b. a ++ b) h.events same,
+      ← events-append
+          (acts_chosen first g m h.choices) (choice_acts g (at h.choices) c),
+    );
+    world = rw (
+      after-append m.world acts new,
+      h.world,
+      after-events (at h.choices).world new,
+      same,
+      ← after-events
+          (at h.choices).world (choice_acts g (at h.choices) c),
+    );
   }
 
   -- a line is raised
@@ -185,14 +192,13 @@ module _ (first : Memory) (g : Scope) (m : Moment) (t0 : ℕ) where
       let c : ℕ = g.cpus + s.place in
       let above : g.cpus ≤ c = omega arith in
       let there : c - g.cpus ≡ s.place = omega arith in
-      let now : g.from ≤ (at h.chosen.choices).turns = omega (arith, time, h.late) in
+      let now : g.from ≤ (at h.chosen.choices).turns = omega arith in
       let is : choice_acts g (at h.chosen.choices) c ≡ Makes (E.Raise j) ∷ [] =
-      raise_chosen g (at h.chosen.choices) c above now
-      ∙ ap (λ l. Makes (E.Raise l) ∷ []) (ap (slice_index g.lines) there ∙ s.is) in
+      rw (raise_chosen g (at h.chosen.choices) c above now, there, s.is) in
       record {
-        chosen = more acts (Makes (E.Raise j) ∷ []) c k h.chosen (omega (arith, s.within)) (ap events_made (sym is));
+        chosen = more acts (Makes (E.Raise j) ∷ []) c k h.chosen (omega arith) (cc);
         since = h.since;
-        late = subst (λ n. min (t - t0) g.from ≤ n) (sym (same_turns g (at h.chosen.choices) c above)) h.late;
+        late = rw (same_turns g (at h.chosen.choices) c above) h.late;
       }
 
   -- the lines that are due are raised
@@ -200,7 +206,7 @@ module _ (first : Memory) (g : Scope) (m : Moment) (t0 : ℕ) where
       → IsAt (acts ++ raises ps t) t (k + length (raises ps t))
   all_raised [] acts t k are h =
       let sum : k ≡ k + 0 = omega arith in
-      subst (λ v. IsAt v t (k + 0)) (sym (append-nil acts)) (subst (IsAt acts t) sum h)
+      rw (append-nil acts) (subst (IsAt acts t) sum h)
   all_raised (p ∷ ps) acts t k are h = by (is_due p t) refl (λ v n. all_raised ps v t n are.1)
     where
       by : (b : Bool) → is_due p t ≡ b → ((v : List Act) (n : ℕ) → IsAt v t n
@@ -211,7 +217,7 @@ module _ (first : Memory) (g : Scope) (m : Moment) (t0 : ℕ) where
           let late : g.from ≤ t - t0 = due_late t0 g.from p t are.0.1 h.since due in
           let one : List Act = Makes (E.Raise p.line) ∷ [] in
           let sum : (k + 1) + length (raises ps t) ≡ k + suc (length (raises ps t)) = omega arith in
-          subst (λ v. IsAt v t (k + suc (length (raises ps t)))) (append_assoc acts one (raises ps t))
+          rw (← append_assoc acts one (raises ps t))
           (subst (λ n. IsAt ((acts ++ one) ++ raises ps t) t n) sum
           (others (acts ++ one) (k + 1) (raised acts t k p.line are.0.0 late h)))
       by false due others = others acts k h
@@ -223,13 +229,12 @@ module _ (first : Memory) (g : Scope) (m : Moment) (t0 : ℕ) where
   turned acts t k c lt h =
       let here = at h.chosen.choices in
       let is : choice_acts g here c ≡ turn (after_acts m.world acts) c 0 =
-      turn_chosen g here c lt ∙ ap (λ w. turn w c 0) (sym h.chosen.world) in
+      cc (turn_chosen g here c lt, h.chosen.world) in
       record {
-        chosen = more acts (turn (after_acts m.world acts) c t) c k h.chosen (omega (arith, lt))
-            (turn_events (after_acts m.world acts) c t ∙ ap events_made (sym is));
-        since = omega (arith, h.since);
-        late = subst (λ n. min ((t + 1) - t0) g.from ≤ n) (sym (more_turns g here c lt))
-            (late_after t0 g.from here.turns t (turn_end here.world c) h.since h.late);
+        chosen = more acts (turn (after_acts m.world acts) c t) c k h.chosen (omega arith)
+            (cc (turn_events (after_acts m.world acts) c t));
+        since = omega arith;
+        late = rw (more_turns g here c lt) (late_after t0 g.from here.turns t (turn_end here.world c) h.since h.late);
       }
 
   -- what it shows can come by one choice more
@@ -238,12 +243,12 @@ module _ (first : Memory) (g : Scope) (m : Moment) (t0 : ℕ) where
   shown acts t k c most lt h few =
       let here = at h.chosen.choices in
       let is : choice_acts g here c ≡ turn (after_acts m.world acts) c 0 =
-      turn_chosen g here c lt ∙ ap (λ w. turn w c 0) (sym h.chosen.world) in (
+      cc (turn_chosen g here c lt, h.chosen.world) in (
         c ∷ h.chosen.choices,
-        omega (arith, h.chosen.count, few),
+        omega arith,
         (
-          (omega (arith, lt), h.chosen.can),
-          ap text_of (sym is),
+          (omega arith, h.chosen.can),
+          rw (← is),
         ),
       )
 
@@ -255,14 +260,13 @@ module _ (first : Memory) (g : Scope) (m : Moment) (t0 : ℕ) where
         → AreChosen first g m most (acts ++ steps (after_acts m.world acts) ps seed g.cpus n t)
         × AreLinesOf (CanComeBy first g m most) t n (text_of (steps (after_acts m.world acts) ps seed g.cpus n t))
     on zero t k most acts h sum = (
-      subst (λ v. AreChosen first g m most v) (sym (append-nil acts))
-          (subst (λ n. AreChosen first g m n acts) (omega (arith, sum)) h.chosen),
+      rw (append-nil acts) (subst (λ n. AreChosen first g m n acts) (omega (arith, sum)) h.chosen),
       refl,
     )
     on (suc n) t k most acts h sum =
         let w : World = after_acts m.world acts in
         let c : ℕ = schedule seed g.cpus t in
-        let lt : c < g.cpus = omega (arith, some) in
+        let lt : c < g.cpus = omega arith in
         let rs : List Act = raises ps t in
         let j : ℕ = k + length rs in
         let r : IsAt (acts ++ rs) t j = all_raised ps acts t k are h in
@@ -273,26 +277,24 @@ module _ (first : Memory) (g : Scope) (m : Moment) (t0 : ℕ) where
         subst (λ v. IsAt ((acts ++ rs) ++ turn v c t) (t + 1) (j + 1)) same (turned (acts ++ rs) t j c lt r) in
         let st : List Act = step w ps c t in
         let all : (acts ++ rs) ++ turn_is ≡ acts ++ st = append_assoc acts rs turn_is in
-        let next : IsAt (acts ++ st) (t + 1) (j + 1) = subst (λ v. IsAt v (t + 1) (j + 1)) all one in
+        let next : IsAt (acts ++ st) (t + 1) (j + 1) = rw (← all) one in
         let there : after_acts m.world (acts ++ st) ≡ after_acts w st = after-append m.world acts st in
-        let left : (j + 1) + (n + lines_raised ps n (t + 1)) ≡ most = omega (arith, sum) in
+        let left : (j + 1) + (n + lines_raised ps n (t + 1)) ≡ most = omega arith in
         let rest = on n (t + 1) (j + 1) most (acts ++ st) next left in
         let others : List Act = steps (after_acts w st) ps seed g.cpus n (t + 1) in
         let label : CanComeBy first g m most (text_of (turn w' c 0)) =
         subst (λ v. CanComeBy first g m most (text_of (turn v c 0))) same
-        (shown (acts ++ rs) t j c most lt r (omega (arith, left))) in (
-          subst (AreChosen first g m most) (append_assoc acts st others)
-              (subst (λ v. AreChosen first g m most ((acts ++ st) ++ steps v ps seed g.cpus n (t + 1))) there rest.0),
+        (shown (acts ++ rs) t j c most lt r (omega arith)) in (
+          rw (← append_assoc acts st others) (subst
+              (λ v. AreChosen first g m most ((acts ++ st) ++ steps v ps seed g.cpus n (t + 1))) there rest.0),
           record {
             label = text_of (turn w' c 0);
             line = text_of turn_is;
             rest = text_of others;
-            whole = text-append st others ∙ ap (λ v. v ++ text_of others)
-                (text-append rs turn_is ∙ ap (λ v. v ++ text_of turn_is) (text-raises ps t));
+            whole = rw (text-append st others, text-append rs turn_is, text-raises ps t);
             same = lines_are_of_runs w' c t;
             known = λ _. label;
-            goes_on = subst (λ v. AreLinesOf (CanComeBy first g m most) (t + 1) n
-                (text_of (steps v ps seed g.cpus n (t + 1)))) there rest.1;
+            goes_on = rw (← there) rest.1;
           },
         )
 
@@ -329,9 +331,13 @@ traces_go_on i start n =
     let others : List Act = steps_from i start i.plans start.seed n in
     let sum : 0 + start.count ≡ start.count = omega arith in
     let at = ap (λ t. first ++ steps (begun_world i start) i.plans start.seed i.cpus n t) sum in
-    text-trace w line i.plans start.seed i.cpus (start.count + n)
-    ∙ ap (λ l. line ++ (l ++ end_line (start.count + n)))
-    (ap text_of (runs_go_on w i.plans start.seed i.cpus start.count n 0 ∙ at) ∙ text-append first others)
+    rw (
+      text-trace w line i.plans start.seed i.cpus (start.count + n),
+      runs_go_on w i.plans start.seed i.cpus
+          start.count n 0,
+      at,
+      text-append first others,
+    )
 
 -- ---- what a search says
 
@@ -351,8 +357,8 @@ lines_known P Q (suc n) t text f h = record {
 -- fewer choices are covered, too
 fewer_covered : (d : Extent) (j k : ℕ) → j ≤ k → IsCovered d k → IsCovered d j
 fewer_covered (Closed depth) j k le h = tt
-fewer_covered (Within depth) j k le h = omega (arith, le, h)
-fewer_covered (Stopped depth) j k le h = omega (arith, le, h)
+fewer_covered (Within depth) j k le h = omega arith
+fewer_covered (Stopped depth) j k le h = omega arith
 
 pub covered_names_runs : CoveredNamesRuns
 covered_names_runs states from most start i v s ps seed n are far =
@@ -361,15 +367,15 @@ covered_names_runs states from most start i v s ps seed n are far =
     let all : ℕ = choices_in ps start.count n in
     let told = told_every no_menu states from most start i v s refl in
     let k = told.counted.all [] tt (fewer_covered s.verdict 0 all (omega arith) far) in
-    let some : 1 ≤ i.cpus = omega (arith, k.stands.stands.sound.at_least_one, k.stands.cpus) in
+    let some : 1 ≤ i.cpus = omega arith in
     let r = chosen_run i from start ps seed n s.first some are in
     lines_known (CanComeBy s.first g m all) (IsNamedBy s.found) n start.count
     (text_of (steps_from i start ps seed n))
     (λ label nonempty can.
     let w = told.all label can.0 can.2 nonempty (fewer_covered s.verdict (length can.0) all can.1 far) in
-    record { place = w.place; witness = w.witness; at = w.at; same = w.same }) r.1
+    search) r.1
 
 pub closed_names_runs : ClosedNamesRuns
 closed_names_runs states from depth most start i v s closed ps seed n are =
     covered_names_runs states from most start i v s ps seed n are
-    (subst (λ d. IsCovered d (choices_in ps start.count n)) (sym closed) tt)
+    (rw closed tt)

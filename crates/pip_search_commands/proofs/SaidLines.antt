@@ -18,7 +18,7 @@ zip_at (a ∷ xs) (b ∷ ys) zero x y at there = cc
 zip_at (a ∷ xs) (b ∷ ys) (suc k) x y at there = zip_at xs ys k x y at there
 
 pub all_beside : {A B : Type 0} (xs : List A) (ys : List B) (k : ℕ) → length ys ≤ k → take k (zip xs ys) ≡ zip xs ys
-all_beside xs ys k most = let few = length-zip xs ys in take_all k (zip xs ys) (omega (arith, few, most))
+all_beside xs ys k most = let few = length-zip xs ys in take_all k (zip xs ys) (omega arith)
 
 -- ---- the windows of classes
 
@@ -32,15 +32,17 @@ module _ (cpus : ℕ) (ls : List ℕ) where
       let one : windows_words cpus ls k m ≡ windows_words cpus ls (k + 0) n =
       ap (windows_words cpus ls k) (let e : m ≡ n = cc in e)
       ∙ ap (λ j. windows_words cpus ls j n) (let e : k ≡ k + 0 = omega arith in e) in
-      (counts_words cpus ls (suc k) ns, ap (λ t. t ++ counts_words cpus ls (suc k) ns) one)
+      (counts_words cpus ls (suc k) ns, rw one)
   counts_split k (m ∷ ns) (suc i) n at =
       let (more, e) = counts_split (suc k) ns i n at in
       let next : suc k + i ≡ k + suc i = omega arith in (
         more,
-        ap (λ t. windows_words cpus ls k m ++ t) (e
-            ∙ ap (λ j. counts_words cpus ls (suc k) (take i ns) ++ (windows_words cpus ls j n ++ more)) next)
-            ∙ sym (append_assoc (windows_words cpus ls k m) (counts_words cpus ls (suc k) (take i ns))
-            (windows_words cpus ls (k + suc i) n ++ more)),
+        rw (
+          e,
+          next,
+          ← append_assoc (windows_words cpus ls k m) (counts_words cpus ls (suc k) (take i ns))
+              (windows_words cpus ls (k + suc i) n ++ more),
+        ),
       )
 
   counts_more : (k : ℕ) (ns : List ℕ) (i n : ℕ) → slice_get ns i ≡ Some n → counts_words cpus ls k (take (suc i) ns)
@@ -51,10 +53,12 @@ module _ (cpus : ℕ) (ls : List ℕ) where
       ∙ ap (λ j. windows_words cpus ls j n) (let e : k ≡ k + 0 = omega arith in e)
   counts_more k (m ∷ ns) (suc i) n at =
       let next : suc k + i ≡ k + suc i = omega arith in
-      ap (λ t. windows_words cpus ls k m ++ t) (counts_more (suc k) ns i n at
-      ∙ ap (λ j. counts_words cpus ls (suc k) (take i ns) ++ windows_words cpus ls j n) next)
-      ∙ sym (append_assoc (windows_words cpus ls k m) (counts_words cpus ls (suc k) (take i ns))
-      (windows_words cpus ls (k + suc i) n))
+      rw (
+        counts_more (suc k) ns i n at,
+        next,
+        ← append_assoc (windows_words cpus ls k m)
+            (counts_words cpus ls (suc k) (take i ns)) (windows_words cpus ls (k + suc i) n),
+      )
 
   module _ (a b d : Taken) (ns : List ℕ) (i n : ℕ) (at : slice_get ns i ≡ Some n)
       (before : Appends a b (counts_words cpus ls 0 (take i ns))) where
@@ -65,8 +69,8 @@ module _ (cpus : ℕ) (ls : List ℕ) where
     pub counts_next : Appends b d (windows_words cpus ls i n) → Appends a d (counts_words cpus ls 0 (take (i + 1) ns))
     counts_next h =
         let one : suc i ≡ i + 1 = omega arith in
-        subst (λ j. Appends a d (counts_words cpus ls 0 (take j ns))) one
-        (subst (Appends a d) (sym (counts_more 0 ns i n at ∙ ap (λ t. counts_words cpus ls 0 (take i ns) ++ t) here))
+        rw (← one) (subst (Appends a d) (sym (counts_more 0 ns i n at ∙ ap
+        (λ t. counts_words cpus ls 0 (take i ns) ++ t) here))
         (Appends-trans a b d (counts_words cpus ls 0 (take i ns)) (windows_words cpus ls i n) before h))
 
     -- or a part of it
@@ -75,7 +79,6 @@ module _ (cpus : ℕ) (ls : List ℕ) where
         let (more, e) = counts_split 0 ns i n at in
         let whole : counts_words cpus ls 0 ns
         ≡ counts_words cpus ls 0 (take i ns) ++ (windows_words cpus ls i n ++ more) =
-        e ∙ ap (λ t. counts_words cpus ls 0 (take i ns) ++ (t ++ more)) here in
-        subst (AppendsPart a d) (sym whole)
-        (part_after a b d (counts_words cpus ls 0 (take i ns)) (windows_words cpus ls i n ++ more) before
+        rw (e, here) in
+        rw whole (part_after a b d (counts_words cpus ls 0 (take i ns)) (windows_words cpus ls i n ++ more) before
         (part_longer b d (windows_words cpus ls i n) more h))

@@ -1,5 +1,5 @@
 -- How a command ends that searches an image. The streams go from a to c.
-use Rattle.std.proofs.Common.{◌≡◌, ◌≢◌, ℕ, inl, inr, Option, None, List, [], refl, sym, ap, subst, arith}
+use Rattle.std.proofs.Common.{◌≡◌, ◌≢◌, ℕ, inl, inr, Option, None, List, [], refl, ap, arith}
 use Rattle.std.specs.Prelude.{MatchOption, Some, option_map}
 use Rattle.pip_base.specs.Memory.{Memory}
 use Rattle.pip_image.specs.Reading.{IsFault, RefusesAfter}
@@ -12,7 +12,7 @@ use Rattle.pip_switch.specs.Standing.{State}
 use Rattle.pip_search_commands.specs.Searches.{EndsWithFound}
 use Rattle.pip_command_contracts.specs.EndsBy.{Due, EndsBy, IsAnswered, Response, plainly}
 use Rattle.pip_command_contracts.specs.Faults.{image_line}
-use Rattle.pip_command_contracts.specs.ImageDues.{IsImageAnswer, searching_due}
+use Rattle.pip_command_contracts.specs.ImageDues.{searching_due}
 use Rattle.pip_command_contracts.specs.Loading.{LoadsFrames, StoppedLoading}
 use Rattle.pip_command_contracts.specs.Streams.{EndsLine, IsCalm, Streams}
 use Rattle.pip_command_contracts.specs.declared.loading.LoadError.{LoadError}
@@ -29,15 +29,14 @@ module _ (P : Image → Response → Type 0) (code : ℕ) (p : Option State) (a 
   is_found : (h : Header) (m : Memory) (l : LoadsFrames a.left c.left h m) (text : List ℕ)
       → P l.parsed (plainly 0 text None) → IsAnswered due l.input (plainly 0 text None) c.left
   is_found h m l text found = record {
-    is = subst (λ r. IsImageAnswer P r (plainly 0 text None)) (sym l.good) found;
+    is = rw l.good found;
     decided = inr (l.whole, tt);
   }
 
   is_refused : (parts : List Part) (bytes : List ℕ) (e : ImageError) (line : List ℕ) → image_line e ≡ Some line
       → IsFault image_parts parts bytes c.left e → IsAnswered due bytes (plainly 2 line None) c.left
   is_refused parts bytes e line named is = record {
-    is = subst (λ r. IsImageAnswer P r (plainly 2 line None)) (sym (no_image parts bytes c.left e is))
-        (ap (option_map (λ line. plainly 2 line None)) named);
+    is = rw (no_image parts bytes c.left e is) (ap (option_map (λ line. plainly 2 line None)) named);
     decided = elim (is_faulty parts bytes c.left e is) [
       | inl all ↦ inl all
       | inr end ↦ inr (end, tt)
@@ -58,7 +57,7 @@ module _ (P : Image → Response → Type 0) (code : ℕ) (p : Option State) (a 
       → Keeps a.written c.written → c.writes ≡ a.writes → EndsBy due code p a c
   found_lacks is {stop} why stopped kept quiet =
       let h : StoppedLoading T.Memory a.left c.left a.reads c.reads =
-      subst (λ s. StoppedLoading s a.left c.left a.reads c.reads) why stopped in
+      rw why at stopped in
       by_memory due code p a c (record { reads = λ not. h.1; writes = λ not. quiet }) flushed apart h.0.bytes h.0.read
       none is (inl h.0.header) kept
 
@@ -69,6 +68,6 @@ module _ (P : Image → Response → Type 0) (code : ℕ) (p : Option State) (a 
       (λ line. EndsLine 2 line code (writing a.written a.writes) (writing c.written c.writes)) → EndsBy due code p a c
   found_faulted {stop} {e} {f} why stopped quiet same ends =
       let h : RefusesAfter image_parts a.left c.left a.reads c.reads e =
-      subst (λ s. StoppedLoading s a.left c.left a.reads c.reads) why stopped in
+      rw why at stopped in
       by_refusal due code p a c start flushed apart none quiet e h.0 h.1 tt (λ good. (good, refl))
       (is_refused h.0 h.1.bytes e) same ends

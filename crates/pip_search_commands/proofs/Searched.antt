@@ -1,6 +1,6 @@
 -- What a search of an image comes to.
 use Rattle.std.proofs.Common.{◌≡◌, ◌≢◌, ℕ, Option, None, List, [], ◌++◌, length}
-use Rattle.std.proofs.Common.{ap, sym, append_assoc, ◌∙◌, subst, Ok, Err}
+use Rattle.std.proofs.Common.{append_assoc, subst, Ok, Err}
 use Rattle.std.specs.Prelude.{MatchResult, Result, IsErr, OnErr}
 use Rattle.pip_base.specs.Memory.{Memory}
 use Rattle.pip_base.specs.declared.types.Plan.{Plan}
@@ -58,14 +58,7 @@ module _ (menu : MenuSaid) (states from : ℕ) (depth : Option ℕ) (start : Sta
   same_front : trace_image_line h.frames h.cpus (length h.plans.items) h.pages
       ++ search_text h.cpus (lines_planned h.plans.items) ws count t.verdict ≡ every_text i ws count t.verdict
   same_front =
-      ap (λ n. trace_image_line n h.cpus (length h.plans.items) h.pages
-      ++ search_text h.cpus (lines_planned h.plans.items) ws count t.verdict) b.frames
-      ∙ (ap (λ n. trace_image_line i.frames n (length h.plans.items) h.pages
-      ++ search_text n (lines_planned h.plans.items) ws count t.verdict) b.cpus
-      ∙ (ap (λ ps. trace_image_line i.frames i.cpus (length ps) h.pages ++ search_text i.cpus (lines_planned ps)
-      ws count t.verdict) b.plans
-      ∙ ap (λ n. trace_image_line i.frames i.cpus (length i.plans) n ++ search_text i.cpus (lines_planned i.plans)
-      ws count t.verdict) b.pages))
+      rw (b.frames, b.cpus, b.plans, b.pages)
 
   abbrev replies_after : List ℕ → ℕ → List Plan → List ℕ
   replies_after front c ps = front ++ ((again_text c (lines_planned ps) menu.again t.replies.again.items
@@ -75,13 +68,14 @@ module _ (menu : MenuSaid) (states from : ℕ) (depth : Option ℕ) (start : Sta
   same_text : told_text h t menu ≡ against_text i ws count t.verdict menu t.replies.again.items t.replies.comes.items
       t.replies.away
   same_text =
-      ap (λ k. replies_after k h.cpus h.plans.items) same_front
-      ∙ (ap (λ n. replies_after (every_text i ws count t.verdict) n h.plans.items) b.cpus
-      ∙ (ap (λ ps. replies_after (every_text i ws count t.verdict) i.cpus ps) b.plans
-      ∙ regrouped (every_text i ws count t.verdict)
-      (again_text i.cpus (lines_planned i.plans) menu.again t.replies.again.items)
-      (comes_text i.cpus (lines_planned i.plans) menu.comes t.replies.comes.items)
-      (away_text i.cpus (lines_planned i.plans) t.replies.away)))
+      cc (
+        b.cpus,
+        b.plans,
+        regrouped (every_text i ws count t.verdict)
+            (again_text i.cpus (lines_planned i.plans) menu.again t.replies.again.items)
+            (comes_text i.cpus (lines_planned i.plans) menu.comes t.replies.comes.items)
+            (away_text i.cpus (lines_planned i.plans) t.replies.away),
+      )
 
   abbrev menu_at : ℕ → List Plan → Menu
   menu_at c ps = record { scope = record { cpus = c; lines = lines_planned ps; from = from }; may = menu.may }
@@ -102,7 +96,7 @@ module _ (menu : MenuSaid) (states from : ℕ) (depth : Option ℕ) (start : Sta
   pub searched : IsToldFrom menu states from depth start h m t
       → IsSearchedAgainst menu states from depth start i (plainly 0 (told_text h t menu) None)
   searched found =
-      let all : IsFound i.cpus i.plans = subst (λ ps. IsFound i.cpus ps) b.plans
+      let all : IsFound i.cpus i.plans = rw (← b.plans)
       (subst (λ c. IsFound c h.plans.items) b.cpus (found i.frames (image_word i.frames i.pages) b.booted)) in
       record {
         first = m;
@@ -117,5 +111,5 @@ module _ (menu : MenuSaid) (states from : ℕ) (depth : Option ℕ) (start : Sta
         coming = all.1.1.0;
         away = t.replies.away;
         looks = all.1.1.1;
-        text = ap (λ text. plainly 0 text None) same_text;
+        text = rw same_text;
       }

@@ -1,6 +1,6 @@
 -- What the last line of a text says: how the search ended, or what was said of the last label.
 use Rattle.std.proofs.Common.{◌≡◌, ℕ, zero, suc, ◌+◌, ◌-◌, ◌%◌, ◌/◌, ◌<◌, ◌≤◌, ◌==◌, inr, nat_lt, if◌then◌else◌}
-use Rattle.std.proofs.Common.{Bool, true, false, List, [], ◌∷◌, ◌++◌, length, take, Option, None, Some, refl, sym, ap}
+use Rattle.std.proofs.Common.{Bool, true, false, List, [], ◌∷◌, ◌++◌, length, take, Option, None, Some, refl, sym}
 use Rattle.std.proofs.Common.{◌∙◌, subst, arith, append_assoc, append-nil, decimal, slice_get}
 use Rattle.std.specs.Fmt.{digit_glyph, digits, digits_onto}
 use Rattle.std.specs.Prelude.{codes, drop, flat_map, reverse, slice_index}
@@ -24,7 +24,7 @@ use Rattle.pip_search.specs.declared.searching.Extent.{Extent}
 use Rattle.pip_search.specs.declared.searching.Extent.TheVariants.{Closed, Stopped, Within}
 use Rattle.pip_search.specs.declared.ways.Run.{Run}
 use Rattle.pip_search_commands.specs.ApartLaw.{HasLineOf}
-use Rattle.pip_search_commands.specs.EveryText.{again_front, again_text, against_text, away_text, away_words}
+use Rattle.pip_search_commands.specs.EveryText.{again_front, again_text, against_text, away_words}
 use Rattle.pip_search_commands.specs.EveryText.{comes_text, every_text, said_line, said_words}
 use Rattle.pip_search_commands.specs.MenuText.{MenuSaid, no_menu}
 use Rattle.pip_search_commands.specs.RunLaw.{IsNamedBy, steps_from}
@@ -43,7 +43,7 @@ use Rattle.pip_search_commands.proofs.RunsChosen.{closed_names_runs, lines_known
 -- a byte counted from the end of a text is one of its end
 from_end : (k : ℕ) (front end : List ℕ)
     → slice_get (reverse (front ++ end)) k ≡ slice_get (reverse end ++ reverse front) k
-from_end k front end = ap (λ v. slice_get v k) (reverse-append front end)
+from_end k front end = rw (reverse-append front end)
 
 -- a text ends with this byte
 abbrev EndsWith : ℕ → List ℕ → Type 0
@@ -51,13 +51,12 @@ EndsWith b text = (front : List ℕ) × (text ≡ front ++ b ∷ [])
 
 -- with another text before it
 ends_after : (b : ℕ) (front text : List ℕ) → EndsWith b text → EndsWith b (front ++ text)
-ends_after b front text (x, e) = (front ++ x, ap (λ t. front ++ t) e ∙ sym (append_assoc front x (b ∷ [])))
+ends_after b front text (x, e) = (front ++ x, rw (e, ← append_assoc front x (b ∷ [])))
 
 -- one byte alone ends a text, before its newline
 same_end : (a b : ℕ) (xs ys : List ℕ) → xs ++ (a ∷ 10 ∷ []) ≡ ys ++ (b ∷ 10 ∷ []) → a ≡ b
 same_end a b xs ys e =
-    let same : Some a ≡ Some b = sym (from_end 1 xs (a ∷ 10 ∷ [])) ∙ ap (λ v. slice_get (reverse v) 1) e
-    ∙ from_end 1 ys (b ∷ 10 ∷ []) in
+    let same : Some a ≡ Some b = rw (← from_end 1 xs (a ∷ 10 ∷ []), e, from_end 1 ys (b ∷ 10 ∷ [])) in
     cc
 
 -- ---- the last digit of a number
@@ -97,7 +96,7 @@ end_grouped : (a b c end : List ℕ) → a ++ (b ++ (c ++ end)) ≡ (a ++ (b ++ 
 end_grouped a b c end = simp append_assoc
 
 byte_grouped : (a x : List ℕ) (b : ℕ) → a ++ ((x ++ b ∷ []) ++ 10 ∷ []) ≡ (a ++ x) ++ (b ∷ 10 ∷ [])
-byte_grouped a x b = ap (λ t. a ++ t) (append_assoc x (b ∷ []) (10 ∷ [])) ∙ sym (append_assoc a x (b ∷ 10 ∷ []))
+byte_grouped a x b = rw (append_assoc x (b ∷ []) (10 ∷ []), ← append_assoc a x (b ∷ 10 ∷ []))
 
 says_closed : (i : Image) (ws : List Witness) (count : ℕ) (e : Extent)
     → EndsSo (every_text i ws count e) (codes " closed") → (depth : ℕ) × (e ≡ Closed depth)
@@ -110,11 +109,14 @@ says_closed i ws count (Within depth) (front, is) =
     let whole : every_text i ws count (Within depth) ≡ before ++ (decimal depth ++ 10 ∷ []) =
     number_grouped image lines (codes "states " ++ decimal count ++ codes " within ") (decimal depth) (10 ∷ []) in
     let last : before ++ (decimal depth ++ 10 ∷ []) ≡ (before ++ digits) ++ (last_digit depth ∷ 10 ∷ []) =
-    ap (λ d. before ++ (d ++ 10 ∷ [])) end ∙ byte_grouped before digits (last_digit depth) in
+    rw (end, byte_grouped before digits (last_digit depth)) in
     let own = sym (append_assoc front (codes " close") (100 ∷ 10 ∷ [])) in
-    let same = same_end (last_digit depth) 100 (before ++ digits) (front ++ codes " close")
-    (sym last ∙ (sym whole ∙ (is ∙ own))) in
-    absurd (omega (arith, same, digit_low depth))
+    absurd (omega (
+      arith,
+      same_end (last_digit depth) 100 (before ++ digits) (front ++ codes " close")
+          (sym last ∙ (sym whole ∙ (is ∙ own))),
+      digit_low depth,
+    ))
 says_closed i ws count (Stopped depth) (front, is) =
     let p : ℕ = 112 in
     let s : ℕ = 115 in
@@ -125,9 +127,14 @@ says_closed i ws count (Stopped depth) (front, is) =
     end_grouped (trace_image_line i.frames i.cpus (length i.plans) (length i.pages))
     (flat_map (witness_line i.cpus (lines_planned i.plans)) ws)
     (codes "states " ++ decimal count ++ codes " depth " ++ decimal depth) (codes " stopped\n") in
-    let same : Some p ≡ Some s = sym (from_end 3 before (codes " stopped\n"))
-    ∙ ap (λ v. slice_get (reverse v) 3) (sym whole ∙ is) ∙ from_end 3 front (codes " closed\n") in
-    let z : p ≡ s = cc in absurd (omega (arith, z))
+    let same : Some p ≡ Some s = rw (
+      ← from_end 3 before (codes " stopped\n"),
+      ← whole,
+      is,
+      from_end 3 front
+          (codes " closed\n"),
+    ) in
+    let z : p ≡ s = cc in absurd (omega arith)
 
 -- ---- a line for each label
 
@@ -148,7 +155,7 @@ has_line i ws count e label n =
     let way = way_text i.cpus lines n.witness.way in
     let line = decimal step ++ inner label ++ codes ":" ++ way ++ codes "\n" in
     let own : witness_line i.cpus lines n.witness ≡ line =
-    ap (λ l. decimal step ++ inner l ++ codes ":" ++ way ++ codes "\n") n.same in
+    rw n.same in
     record {
       before = image ++ front;
       step = step;
@@ -156,8 +163,7 @@ has_line i ws count e label n =
       after = more ++ verdict_line count e;
       begins = both_whole image front (image_whole i.frames i.cpus (length i.plans) (length i.pages))
           (all_whole (witness_line i.cpus lines) (witness_whole i.cpus lines) (take n.place ws));
-      whole = ap (λ l. image ++ (l ++ verdict_line count e)) (split ∙ ap (λ l. front ++ (l ++ more)) own)
-          ∙ regrouped image front line more (verdict_line count e);
+      whole = rw (split, own, regrouped image front line more (verdict_line count e));
     }
   where
     regrouped : (a b line c d : List ℕ) → a ++ ((b ++ (line ++ c)) ++ d) ≡ (a ++ b) ++ (line ++ (c ++ d))
@@ -169,9 +175,7 @@ asks_less : (i : Image) (ws : List Witness) (count : ℕ) (e : Extent) (menu : M
     → against_text i ws count e menu again comes away ≡ again_front i ws count e menu.again again
 asks_less i ws count e menu again comes away nor out =
     let front = again_front i ws count e menu.again again in
-    ap (λ l. front ++ (comes_text i.cpus (lines_planned i.plans) l comes ++ away_text i.cpus (lines_planned i.plans)
-    away)) nor
-    ∙ (ap (λ a. front ++ away_text i.cpus (lines_planned i.plans) a) out ∙ append-nil front)
+    rw (nor, out, append-nil front)
 
 module _ (menu : MenuSaid) (states from : ℕ) (most : Option ℕ) (start : Start) (i : Image) (text : List ℕ)
     (s : IsSearchedAgainst menu states from most start i (plainly 0 text None)) (nor : menu.comes ≡ [])
@@ -184,15 +188,18 @@ module _ (menu : MenuSaid) (states from : ℕ) (most : Option ℕ) (start : Star
     (s : IsSearchedAgainst menu states from most start i (plainly 0 text None)) (none : menu.again ≡ [])
     (nor : menu.comes ≡ []) (out : leaves_out menu.out ≡ false) where
   text_is : text ≡ every_text i s.found s.count s.verdict
-  text_is = front_is menu states from most start i text s nor out
-      ∙ (ap (λ l. again_front i s.found s.count s.verdict l s.again) none
-      ∙ append-nil (every_text i s.found s.count s.verdict))
+  text_is = rw (
+    front_is menu states from most start i text s nor out,
+    none,
+    append-nil
+        (every_text i s.found s.count s.verdict),
+  )
 
   closes : EndsSo text (codes " closed") → (depth : ℕ) × (s.verdict ≡ Closed depth)
-  closes h = says_closed i s.found s.count s.verdict (subst (λ t. EndsSo t (codes " closed")) text_is h)
+  closes h = says_closed i s.found s.count s.verdict (rw (← text_is) h)
 
   named : (label : List ℕ) → IsNamedBy s.found label → HasLineOf text label
-  named label n = subst (λ t. HasLineOf t label) (sym text_is) (has_line i s.found s.count s.verdict label n)
+  named label n = rw text_is (has_line i s.found s.count s.verdict label n)
 
 pub closed_texts_name_runs : ClosedTextsNameRuns
 closed_texts_name_runs states from most start i text s ends plans seed n are =
@@ -214,7 +221,7 @@ times_end : (b : ℕ) (n : ℕ) (text : List ℕ) → EndsWith b text → (b < 5
 times_end b n text h low = by_test (n == 1)
   where
     by_test : (t : Bool) → (c : ℕ) × ((c < 58) × EndsWith c (text ++ (if t then [] else codes "x" ++ decimal n)))
-    by_test true = (b, (low, subst (EndsWith b) (sym (append-nil text)) h))
+    by_test true = (b, (low, rw (append-nil text) h))
     by_test false = (
       last_digit n,
       (
@@ -259,16 +266,15 @@ no_end cpus lines front rs = go rs (front ++ codes ": no") 111 (omega arith)
   where
     go : (rs : List Run) (text : List ℕ) (b : ℕ) → b < 112 → EndsWith b text
         → (c : ℕ) × ((c < 112) × EndsWith c (text ++ flat_map (spaced_run cpus lines) rs))
-    go [] text b low h = (b, (low, subst (EndsWith b) (sym (append-nil text)) h))
+    go [] text b low h = (b, (low, rw (append-nil text) h))
     go (r ∷ rs) text b low h =
         let (c, (less, end)) = run_end cpus lines r in
-        let (d, (few, all)) = go rs (text ++ spaced_run cpus lines r) c (omega (arith, less))
+        let (d, (few, all)) = go rs (text ++ spaced_run cpus lines r) c (omega arith)
         (ends_after c text (spaced_run cpus lines r) end) in (
           d,
           (
             few,
-            subst (EndsWith d) (append_assoc text (spaced_run cpus lines r)
-                (flat_map (spaced_run cpus lines) rs)) all,
+            rw (← append_assoc text (spaced_run cpus lines r) (flat_map (spaced_run cpus lines) rs)) all,
           ),
         )
 
@@ -281,19 +287,17 @@ says_yes cpus lines front Can h = refl
 says_yes cpus lines front Unknown (x, e) =
     let n : ℕ = 110 in
     let s : ℕ = 115 in
-    let same : Some n ≡ Some s = sym (from_end 1 front (codes ": unknown\n"))
-    ∙ ap (λ v. slice_get (reverse v) 1) e ∙ from_end 1 x (codes ": yes\n") in
-    let z : n ≡ s = cc in absurd (omega (arith, z))
+    let same : Some n ≡ Some s = rw (← from_end 1 front (codes ": unknown\n"), e, from_end 1 x (codes ": yes\n")) in
+    let z : n ≡ s = cc in absurd (omega arith)
 says_yes cpus lines front (Lost way) (x, e) =
     let (b, (low, (y, end))) = no_end cpus lines front way.items in
     let runs = flat_map (spaced_run cpus lines) way.items in
     let whole : front ++ said_words cpus lines (Lost way) ≡ ((front ++ codes ": no") ++ runs) ++ 10 ∷ [] =
     sides front (codes ": no") runs (10 ∷ []) in
     let last : ((front ++ codes ": no") ++ runs) ++ 10 ∷ [] ≡ y ++ (b ∷ 10 ∷ []) =
-    ap (λ t. t ++ 10 ∷ []) end ∙ append_assoc y (b ∷ []) (10 ∷ []) in
+    rw (end, append_assoc y (b ∷ []) (10 ∷ [])) in
     let own = sym (append_assoc x (codes ": ye") (115 ∷ 10 ∷ [])) in
-    let same = same_end b 115 y (x ++ codes ": ye") (sym last ∙ (sym whole ∙ (e ∙ own))) in
-    absurd (omega (arith, same, low))
+    absurd (omega (arith, same_end b 115 y (x ++ codes ": ye") (sym last ∙ (sym whole ∙ (e ∙ own))), low))
 
 -- lines that say `yes` of all labels are those of answers that do
 all_yes : (cpus : ℕ) (lines : List ℕ) (labels : List (List ℕ)) (said : List Again) → length said ≡ length labels
@@ -304,11 +308,10 @@ all_yes cpus lines (l ∷ ls) [] count each = cc
 all_yes cpus lines (l ∷ ls) (r ∷ rs) count each =
     let yes : Some r ≡ Some Can = each 0 l refl in
     let can : r ≡ Can = cc in
-    ap (λ a. said_line cpus lines l a ++ again_text cpus lines ls rs) can
-    ∙ ap (λ t. comes_again_line l ++ t) (all_yes cpus lines ls rs (omega arith) (λ k label at. each (suc k) label at))
+    rw (can, all_yes cpus lines ls rs (omega arith) (λ k label at. each (suc k) label at))
 
 moved_on : (x a b y c d : List ℕ) → x ++ (a ++ b) ≡ y ++ (c ++ d) → (x ++ a) ++ b ≡ (y ++ c) ++ d
-moved_on x a b y c d e = append_assoc x a b ∙ e ∙ sym (append_assoc y c d)
+moved_on x a b y c d e = rw (append_assoc x a b, e, ← append_assoc y c d)
 
 -- where all answers after it say `yes`, so does an answer before such lines
 first_yes : (cpus : ℕ) (lines : List ℕ) (label : List ℕ) (labels : List (List ℕ)) (r : Again) (said : List Again)
@@ -321,12 +324,11 @@ first_yes cpus lines label labels r said x y count whole rest =
     let due = y ++ comes_again_line label in
     let same = all_yes cpus lines labels said count rest in
     let cut : own ≡ due = append_cancel_right own due (flat_map comes_again_line labels)
-    (ap (λ t. own ++ t) (sym same) ∙ whole) in
+    (cc) in
     let front = codes "again " ++ label in
     says_yes cpus lines (x ++ front) r (
       y ++ front,
-      append_assoc x front (said_words cpus lines r) ∙ cut
-          ∙ sym (append_assoc y front (codes ": yes\n")),
+      rw (append_assoc x front (said_words cpus lines r), cut, ← append_assoc y front (codes ": yes\n")),
     )
 
 -- a text that ends with such lines has these answers
@@ -343,9 +345,9 @@ each_yes cpus lines (l ∷ ls) (r ∷ rs) x y (suc j) count e (suc k) label late
 each_yes cpus lines (l ∷ ls) (r ∷ rs) x y zero count e zero label late at =
     let whole = moved_on x (said_line cpus lines l r) (again_text cpus lines ls rs) y (comes_again_line l)
     (flat_map comes_again_line ls) e in
-    ap Some (first_yes cpus lines l ls r rs x y (omega arith) whole (λ k other here.
-    each_yes cpus lines ls rs (x ++ said_line cpus lines l r) (y ++ comes_again_line l) 0 (omega arith) whole k other
-    (omega arith) here))
+    rw (first_yes cpus lines l ls r rs x y (omega arith) whole
+    (λ k other here. each_yes cpus lines ls rs (x ++ said_line cpus lines l r) (y ++ comes_again_line l) 0
+    (omega arith) whole k other (omega arith) here))
 each_yes cpus lines (l ∷ ls) (r ∷ rs) x y zero count e (suc k) label late at =
     each_yes cpus lines ls rs (x ++ said_line cpus lines l r) (y ++ comes_again_line l) 0 (omega arith)
     (moved_on x (said_line cpus lines l r) (again_text cpus lines ls rs) y (comes_again_line l)
@@ -356,7 +358,7 @@ pub yes_texts_come_again : YesTextsComeAgain
 yes_texts_come_again menu states from most start i text front s j k label none out whole late at =
     yes_comes_again menu states from most start i (plainly 0 text None) s k label at
     (each_yes i.cpus (lines_planned i.plans) menu.again s.again (every_text i s.found s.count s.verdict) front j
-    s.said.count (sym (front_is menu states from most start i text s none out) ∙ whole) k label late at)
+    s.said.count (rw (← front_is menu states from most start i text s none out) whole) k label late at)
 
 -- ---- whether all outside looks away
 
@@ -367,9 +369,9 @@ says_away cpus lines front A.Yes h = refl
 says_away cpus lines front A.Unknown (x, e) =
     let n : ℕ = 110 in
     let s : ℕ = 115 in
-    let same : Some n ≡ Some s = sym (from_end 1 front (codes "away unknown\n"))
-    ∙ ap (λ v. slice_get (reverse v) 1) e ∙ from_end 1 x (codes "away yes\n") in
-    let z : n ≡ s = cc in absurd (omega (arith, z))
+    let same : Some n ≡ Some s = rw (← from_end 1 front (codes "away unknown\n"), e, from_end 1 x (codes "away yes\n"))
+    in
+    let z : n ≡ s = cc in absurd (omega arith)
 says_away cpus lines front (A.No way cpu) (x, e) =
     let (y, end) = decimal_end cpu in
     let runs = flat_map (spaced_run cpus lines) way.items in
@@ -377,10 +379,14 @@ says_away cpus lines front (A.No way cpu) (x, e) =
     let whole : front ++ away_words cpus lines (A.No way cpu) ≡ before ++ (decimal cpu ++ 10 ∷ []) =
     seen_grouped front (codes "away no") runs (codes " : ") (decimal cpu) (10 ∷ []) in
     let last : before ++ (decimal cpu ++ 10 ∷ []) ≡ (before ++ y) ++ (last_digit cpu ∷ 10 ∷ []) =
-    ap (λ d. before ++ (d ++ 10 ∷ [])) end ∙ byte_grouped before y (last_digit cpu) in
+    rw (end, byte_grouped before y (last_digit cpu)) in
     let own = sym (append_assoc x (codes "away ye") (115 ∷ 10 ∷ [])) in
-    let same = same_end (last_digit cpu) 115 (before ++ y) (x ++ codes "away ye") (sym last ∙ (sym whole ∙ (e ∙ own)))
-    in absurd (omega (arith, same, digit_low cpu))
+    absurd (omega (
+      arith,
+      same_end (last_digit cpu) 115 (before ++ y) (x ++ codes "away ye")
+          (sym last ∙ (sym whole ∙ (e ∙ own))),
+      digit_low cpu,
+    ))
   where
     seen_grouped : (f a b c d e : List ℕ) → f ++ ((a ++ b) ++ (c ++ (d ++ e))) ≡ (f ++ (a ++ (b ++ c))) ++ (d ++ e)
     seen_grouped f a b c d e = simp append_assoc
@@ -396,7 +402,10 @@ ends_away menu states from most start i text s out ends =
     let front = again_front i s.found s.count s.verdict menu.again s.again in
     let comes = comes_text cpus lines menu.comes s.comes in
     let own : text ≡ (front ++ comes) ++ away_words cpus lines a =
-    same_answer text (against_text i s.found s.count s.verdict menu s.again s.comes s.away) s.text
-    ∙ (ap (λ x. front ++ (comes ++ away_text cpus lines x)) is ∙ sym (append_assoc front comes (away_words cpus lines
-    a))) in
-    is ∙ ap Some (says_away cpus lines (front ++ comes) a (subst (λ t. EndsSo t (codes "away yes")) own ends))
+    rw (
+      same_answer text (against_text i s.found s.count s.verdict menu s.again s.comes s.away) s.text,
+      is,
+      ←
+          append_assoc front comes (away_words cpus lines a),
+    ) in
+    rw (is, says_away cpus lines (front ++ comes) a (subst (λ t. EndsSo t (codes "away yes")) own ends))

@@ -4,7 +4,6 @@ use Rattle.std.specs.Prelude.{ℕ, ◌+◌, ◌==◌, ◌&&◌, nat_le, nat_lt, 
 use Rattle.std.specs.Prelude.{Option, Some, None, Result, Ok, Err, codes, decimal, option_and_then, option_map}
 use Rattle.std.specs.Str.{bytes_eq}
 use Rattle.pip_away.specs.Blind.{LeftOut}
-use Rattle.pip_away.specs.declared.blind.PageWord.{PageWord}
 use Rattle.pip_base.specs.declared.types.Size.TheVariants.{Byte, Word}
 use Rattle.pip_every.specs.declared.menus.Deed.{Deed}
 use Rattle.pip_every.specs.declared.menus.Deed.TheVariants as D

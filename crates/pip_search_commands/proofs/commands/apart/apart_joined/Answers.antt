@@ -1,4 +1,4 @@
-use Rattle.std.proofs.Common.{ap, refl}
+use Rattle.std.proofs.Common.{refl}
 use Rattle.pip_io.proofs.Taken.{Keeps-refl}
 use Rattle.pip_search_commands.specs.SearchDues.{IsFoundApart}
 use Rattle.pip_command_contracts.proofs.Endings.{ends_same}
@@ -10,22 +10,22 @@ pub returns-in-Ok-clause-ends : goal.returns-in-Ok-clause-ends
 returns-in-Ok-clause-ends g c =
     let load = c.in-Ok.ensures.loads in
     let end = c.end_apart.ensures in
-    ends_same g.K.Sink.history (ap (λ s. s.now) c.in-Ok.ensures.sink) c.requires.paced.none (λ none.
+    ends_same g.K.Sink.history (rw c.in-Ok.ensures.sink) c.requires.paced.none (λ none.
     found_ends (IsFoundApart c.args.states c.args.count c.args.seed) _ _ _ _ end.flushed end.none none load
     (record { reads = λ not. c.in-Ok.ensures.no_faults; writes = end.no_faults }) (end.ends load.parsed load.begins))
 
 pub returns-in-Err-Image-clause-ends : goal.returns-in-Err-Image-clause-ends
 returns-in-Err-Image-clause-ends g c =
     let end = c.end_at_image.ensures in
-    ends_same g.K.Sink.history (ap (λ s. s.now) c.in-Err-Image.ensures.sink) c.requires.paced.none (λ none.
+    ends_same g.K.Sink.history (rw c.in-Err-Image.ensures.sink) c.requires.paced.none (λ none.
     found_faulted (IsFoundApart c.args.states c.args.count c.args.seed) _ _ _ _ end.flushed end.none none
     c.in-Err-Image.field-0-is c.in-Err-Image.ensures.loads end.no_faults c.in-Err-Image.fault-is end.wrote)
 
 pub returns-in-Err-Memory-clause-ends : goal.returns-in-Err-Memory-clause-ends
 returns-in-Err-Memory-clause-ends g c =
-    ends_same g.K.Sink.history (ap (λ s. s.now) c.in-Err-Memory.ensures.sink) c.requires.paced.none (λ none.
+    ends_same g.K.Sink.history (rw c.in-Err-Memory.ensures.sink) c.requires.paced.none (λ none.
     found_lacks (IsFoundApart c.args.states c.args.count c.args.seed) _ _ _ _ (λ not. none)
-    (ap (λ e. e.machine) c.with_status.ensures) none (ap (λ e. e.status) c.with_status.ensures)
+    (rw c.with_status.ensures) none (rw c.with_status.ensures)
     c.in-Err-Memory.field-0-is c.in-Err-Memory.ensures.loads (Keeps-refl _) refl)
 
 pub load-requires-clause-paced : goal.load-requires-clause-paced

@@ -1,10 +1,8 @@
-use Rattle.std.proofs.Common.{rules, ◌<◌, ◌≡◌, ◌∙◌, refl, ap, subst, sym, arith, length, Some}
+use Rattle.std.proofs.Common.{rules, ◌<◌, ◌≡◌, ◌∙◌, refl, arith, length, Some}
 use Rattle.std.proofs.Common.{slice_get}
-use Rattle.std.specs.Prelude.{flat_map, option_map}
 use Rattle.std.specs.List.{zip}
 use Rattle.std.proofs.lemmas.Option.{slice_get-map, slice_get_read}
 use Rattle.std.proofs.lemmas.Result.{MatchResult-from_err}
-use Rattle.pip_io.specs.Taken.{Appends}
 use Rattle.pip_io.proofs.Piecewise.{cut_here, one_more}
 use Rattle.pip_search_commands.specs.EveryText.{label_bytes, said_line}
 use Rattle.pip_search_commands.proofs.SaidLines.{all_beside, zip_at}
@@ -17,10 +15,13 @@ returns-in_err-write_one g c =
     let k = c.loop-k.k in
     let here : k < length said = c.loop-k-test.true in
     let count = c.requires.count in
-    let there : k < length labels = omega (arith, here, count) in
-    let label : slice_get (label_bytes labels) k ≡ Some c.as_slice.result.now = slice_get-map (λ l. l.items) labels k
-    ∙ (ap (option_map (λ l. l.items)) (slice_get_read labels (length labels) k c.index-labels-k.result refl there
-    c.index-labels-k.is) ∙ ap (λ v. Some v) (sym c.as_slice.ensures.value)) in
+    let there : k < length labels = omega arith in
+    let label : slice_get (label_bytes labels) k ≡ Some c.as_slice.result.now = rw (
+      slice_get-map (λ l. l.items) labels k,
+      slice_get_read labels (length labels) k c.index-labels-k.result refl there
+          c.index-labels-k.is,
+      ← c.as_slice.ensures.value,
+    ) in
     let own : slice_get said k ≡ Some c.index-said-k.result =
     slice_get_read said (length said) k c.index-said-k.result refl here c.index-said-k.is in
     record {
@@ -39,10 +40,13 @@ loop-k-preserved g c =
     let k = c.loop-k.k in
     let here : k < length said = c.loop-k-test.true in
     let count = c.requires.count in
-    let there : k < length labels = omega (arith, here, count) in
-    let label : slice_get (label_bytes labels) k ≡ Some c.as_slice.result.now = slice_get-map (λ l. l.items) labels k
-    ∙ (ap (option_map (λ l. l.items)) (slice_get_read labels (length labels) k c.index-labels-k.result refl there
-    c.index-labels-k.is) ∙ ap (λ v. Some v) (sym c.as_slice.ensures.value)) in
+    let there : k < length labels = omega arith in
+    let label : slice_get (label_bytes labels) k ≡ Some c.as_slice.result.now = rw (
+      slice_get-map (λ l. l.items) labels k,
+      slice_get_read labels (length labels) k c.index-labels-k.result refl there
+          c.index-labels-k.is,
+      ← c.as_slice.ensures.value,
+    ) in
     let own : slice_get said k ≡ Some c.index-said-k.result =
     slice_get_read said (length said) k c.index-said-k.result refl here c.index-said-k.is in
     record {
@@ -55,9 +59,7 @@ loop-k-preserved g c =
 
 pub returns : goal.returns
 returns g c = record {
-  wrote = subst (Appends (g.K.Sink.history c.args.sink.now).written (g.K.Sink.history c.loop-k.sink).written)
-      (ap (flat_map (λ p. said_line c.args.cpus c.args.lines.now p.0 p.1))
-      (all_beside (label_bytes c.args.labels.now) c.args.said.now c.loop-k.k (search (rules, arith))))
+  wrote = rw (← all_beside (label_bytes c.args.labels.now) c.args.said.now c.loop-k.k (search (rules, arith)))
       c.loop-k.invariant.wrote;
   cause = search rules;
 }

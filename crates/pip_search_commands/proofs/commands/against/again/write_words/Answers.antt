@@ -1,28 +1,23 @@
-use Rattle.std.proofs.Common.{rules, ◌++◌, sym, subst}
+use Rattle.std.proofs.Common.{rules, ◌++◌, subst}
 use Rattle.std.specs.Prelude.{codes, flat_map}
 use Rattle.std.proofs.lemmas.Result.{MatchResult-from_err}
-use Rattle.pip_io.specs.Taken.{Appends, AppendsPart, Wrote}
+use Rattle.pip_io.specs.Taken.{Appends, AppendsPart}
 use Rattle.pip_ways.specs.Texts.{spaced_run}
 use Rattle.pip_io.proofs.Piecewise.{part_after, part_longer, wrote_after, wrote_of}
-use Rattle.pip_search_commands.specs.EveryText.{said_words}
 use Rattle.pip_search_commands.proofs.commands.against.again.write_words.Goals as goal
 
 pub returns-in_err-write_all-in-Lost : goal.returns-in_err-write_all-in-Lost
 returns-in_err-write_all-in-Lost g c = record {
-  wrote = subst (λ r. Wrote c.from_residual.result (g.K.Sink.history c.args.sink.now).written
-      (g.K.Sink.history c.write_all-in-Lost.new.sink).written (said_words c.args.cpus c.args.lines.now r))
-      (sym c.in-Lost.is) (MatchResult-from_err c.from_residual.result _ _ c.from_residual.ensures.0 (λ _.
-      part_longer _ _ (codes ": no") _ c.in_err-write_all-in-Lost.ensures.prefix));
+  wrote = rw c.in-Lost.is (MatchResult-from_err c.from_residual.result _ _ c.from_residual.ensures.0
+      (λ _. part_longer _ _ (codes ": no") _ c.in_err-write_all-in-Lost.ensures.prefix));
   cause = search rules;
 }
 
 pub returns-in_err-write_way-in-Lost : goal.returns-in_err-write_way-in-Lost
 returns-in_err-write_way-in-Lost g c = record {
-  wrote = subst (λ r. Wrote c.from_residual-in_err-write_way-in-Lost.result (g.K.Sink.history c.args.sink.now).written
-      (g.K.Sink.history c.write_way.new.sink).written (said_words c.args.cpus c.args.lines.now r)) (sym c.in-Lost.is)
-      (MatchResult-from_err c.from_residual-in_err-write_way-in-Lost.result _ _
-      c.from_residual-in_err-write_way-in-Lost.ensures.0 (λ _.
-      part_after _ _ _ (codes ": no") _ c.in_ok-write_all-in-Lost.ensures.whole
+  wrote = rw c.in-Lost.is (MatchResult-from_err c.from_residual-in_err-write_way-in-Lost.result _ _
+      c.from_residual-in_err-write_way-in-Lost.ensures.0
+      (λ _. part_after _ _ _ (codes ": no") _ c.in_ok-write_all-in-Lost.ensures.whole
       (part_longer _ _ (flat_map (spaced_run c.args.cpus c.args.lines.now) c.in-Lost.way.items) (codes "\n")
       (subst (λ rs. AppendsPart (g.K.Sink.history c.write_all-in-Lost.new.sink).written
       (g.K.Sink.history c.write_way.new.sink).written (flat_map (spaced_run c.args.cpus c.args.lines.now) rs))
@@ -32,16 +27,13 @@ returns-in_err-write_way-in-Lost g c = record {
 
 pub returns-in_ok-write_way-in-Lost : goal.returns-in_ok-write_way-in-Lost
 returns-in_ok-write_way-in-Lost g c = record {
-  wrote = subst (λ r. Wrote c.write_all-in-Lost-2.result (g.K.Sink.history c.args.sink.now).written
-      (g.K.Sink.history c.write_all-in-Lost-2.new.sink).written (said_words c.args.cpus c.args.lines.now r))
-      (sym c.in-Lost.is) (wrote_of _ _ _ (codes ": no")
+  wrote = rw c.in-Lost.is (wrote_of _ _ _ (codes ": no")
       (flat_map (spaced_run c.args.cpus c.args.lines.now) c.in-Lost.way.items ++ codes "\n")
-      c.write_all-in-Lost-2.result
-      c.in_ok-write_all-in-Lost.ensures.whole
+      c.write_all-in-Lost-2.result c.in_ok-write_all-in-Lost.ensures.whole
       (wrote_after _ _ _ (flat_map (spaced_run c.args.cpus c.args.lines.now) c.in-Lost.way.items) (codes "\n")
       c.write_all-in-Lost-2.result (subst (λ rs. Appends (g.K.Sink.history c.write_all-in-Lost.new.sink).written
       (g.K.Sink.history c.write_way.new.sink).written (flat_map (spaced_run c.args.cpus c.args.lines.now) rs))
-      c.as_slice.ensures.value c.in_ok-write_way-in-Lost.ensures.wrote)
-      c.write_all-in-Lost-2.ensures.whole c.write_all-in-Lost-2.ensures.prefix));
+      c.as_slice.ensures.value c.in_ok-write_way-in-Lost.ensures.wrote) c.write_all-in-Lost-2.ensures.whole
+      c.write_all-in-Lost-2.ensures.prefix));
   cause = search rules;
 }

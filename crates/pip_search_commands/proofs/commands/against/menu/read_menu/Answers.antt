@@ -1,8 +1,5 @@
-use Rattle.std.proofs.Common.{◌++◌, Ok, ap, ◌∙◌, refl, subst, sym, arith}
+use Rattle.std.proofs.Common.{◌++◌, ◌∙◌, refl, subst, arith}
 use Rattle.pip_input.specs.Lines.{HoldsLine, IsLineless, still}
-use Rattle.pip_io.specs.Causes.{RoseByOne}
-use Rattle.pip_io.specs.Pacing.{MayRead}
-use Rattle.pip_io.specs.Moments.{streams}
 use Rattle.pip_io.proofs.Pacing.{paced_after}
 use Rattle.pip_search_commands.specs.MenuReading.{BeginsMenu, menu_said}
 use Rattle.pip_search_commands.specs.MenuText.{line_said}
@@ -23,9 +20,7 @@ next_line-requires-clause-paced g c =
     (begins_menu c.loop-line.line (menu_said c.loop-line.menu) i.bytes
     (g.S.Source.history c.args.joint.now.source.now).left
     (g.S.Source.history c.loop-line.joint.source.now).left was.at i refl) c.requires.paced in
-    subst (λ s. MayRead g.S.Source.allows (IsLineless i) (streams g.S.Source.history g.K.Sink.history
-    c.loop-line.joint.source.now s.now)) (sym was.sink)
-    paced
+    rw was.sink paced
 
 pub returns-in_default-clause-reads : goal.returns-in_default-clause-reads
 returns-in_default-clause-reads g c = (
@@ -33,8 +28,7 @@ returns-in_default-clause-reads g c = (
       (g.S.Source.history c.args.joint.now.source.now).left (g.S.Source.history c.loop-line.joint.source.now).left
       (g.S.Source.history c.next_line.new.joint.source.now).left c.loop-line.invariant.at c.next_line.ensures.kept
       c.in_default.ensures.part,
-  subst (λ k. RoseByOne k (g.S.Source.history c.next_line.new.joint.source.now).faults) c.loop-line.invariant.no_faults
-      c.in_default.ensures.cause.failed,
+  rw (← c.loop-line.invariant.no_faults) c.in_default.ensures.cause.failed,
 )
 
 pub returns-in-Err-clause-reads : goal.returns-in-Err-clause-reads
@@ -43,8 +37,7 @@ returns-in-Err-clause-reads g c = (
       (g.S.Source.history c.args.joint.now.source.now).left (g.S.Source.history c.loop-line.joint.source.now).left
       (g.S.Source.history c.next_line.new.joint.source.now).left c.loop-line.invariant.at c.in-Ok.ensures.kept
       c.in-Newline.count
-      c.head.result.now c.head.ensures (subst (HoldsLine (still c.loop-line.input) c.next_line.new.self
-      (g.S.Source.history c.next_line.new.joint.source.now).left) c.in-Newline.is c.in-Ok.ensures.line) c.in-Err.kind
+      c.head.result.now c.head.ensures (rw c.in-Newline.is at c.in-Ok.ensures.line) c.in-Err.kind
       c.in-Err.ensures,
   c.in-Ok.ensures.cause.no_faults ∙ c.loop-line.invariant.no_faults,
 )
@@ -55,8 +48,7 @@ returns-in-Ok-add_line-clause-reads g c = (
       (g.S.Source.history c.args.joint.now.source.now).left (g.S.Source.history c.loop-line.joint.source.now).left
       (g.S.Source.history c.next_line.new.joint.source.now).left c.loop-line.invariant.at c.in-Ok.ensures.kept
       c.in-Last.count
-      c.head-in-Last.result.now c.head-in-Last.ensures (subst (HoldsLine (still c.loop-line.input) c.next_line.new.self
-      (g.S.Source.history c.next_line.new.joint.source.now).left) c.in-Last.is c.in-Ok.ensures.line)
+      c.head-in-Last.result.now c.head-in-Last.ensures (rw c.in-Last.is at c.in-Ok.ensures.line)
       (menu_said c.add_line-in-Last.new.menu)
       c.in-Ok-add_line.ensures,
   c.in-Ok.ensures.cause.no_faults ∙ c.loop-line.invariant.no_faults,
@@ -68,8 +60,7 @@ returns-in-Err-add_line-clause-reads g c = (
       (g.S.Source.history c.args.joint.now.source.now).left (g.S.Source.history c.loop-line.joint.source.now).left
       (g.S.Source.history c.next_line.new.joint.source.now).left c.loop-line.invariant.at c.in-Ok.ensures.kept
       c.in-Last.count
-      c.head-in-Last.result.now c.head-in-Last.ensures (subst (HoldsLine (still c.loop-line.input) c.next_line.new.self
-      (g.S.Source.history c.next_line.new.joint.source.now).left) c.in-Last.is c.in-Ok.ensures.line)
+      c.head-in-Last.result.now c.head-in-Last.ensures (rw c.in-Last.is at c.in-Ok.ensures.line)
       c.in-Err-add_line.kind
       c.in-Err-add_line.ensures,
   c.in-Ok.ensures.cause.no_faults ∙ c.loop-line.invariant.no_faults,
@@ -80,8 +71,7 @@ returns-in-End-clause-reads g c = (
   ends_menu c.loop-line.line (menu_said c.loop-line.menu) c.loop-line.input c.next_line.new.self
       (g.S.Source.history c.args.joint.now.source.now).left (g.S.Source.history c.loop-line.joint.source.now).left
       (g.S.Source.history c.next_line.new.joint.source.now).left c.loop-line.invariant.at c.in-Ok.ensures.kept
-      (subst (HoldsLine (still c.loop-line.input) c.next_line.new.self
-      (g.S.Source.history c.next_line.new.joint.source.now).left) c.in-End.is c.in-Ok.ensures.line),
+      (rw c.in-End.is at c.in-Ok.ensures.line),
   c.in-Ok.ensures.cause.no_faults ∙ c.loop-line.invariant.no_faults,
 )
 
@@ -90,8 +80,7 @@ returns-in-TooLong-clause-reads g c = (
   too_long c.loop-line.line (menu_said c.loop-line.menu) c.loop-line.input c.next_line.new.self
       (g.S.Source.history c.args.joint.now.source.now).left (g.S.Source.history c.loop-line.joint.source.now).left
       (g.S.Source.history c.next_line.new.joint.source.now).left c.loop-line.invariant.at c.in-Ok.ensures.kept
-      (subst (HoldsLine (still c.loop-line.input) c.next_line.new.self
-      (g.S.Source.history c.next_line.new.joint.source.now).left) c.in-TooLong.is c.in-Ok.ensures.line),
+      (rw c.in-TooLong.is at c.in-Ok.ensures.line),
   c.in-Ok.ensures.cause.no_faults ∙ c.loop-line.invariant.no_faults,
 )
 
@@ -112,8 +101,8 @@ loop-line-preserved g c =
           c.in-Newline.count c.head.result.now
           c.head.ensures holds (menu_said c.add_line.new.menu) c.take.new.self c.take.ensures.bytes c.take.ensures.room
           good;
-      first = omega (arith, first);
-      few = omega (arith, few);
+      first = omega arith;
+      few = omega arith;
       room = room_left c.loop-line.line (menu_said c.loop-line.menu) c.loop-line.input c.next_line.new.self
           (g.S.Source.history c.args.joint.now.source.now).left (g.S.Source.history c.loop-line.joint.source.now).left
           (g.S.Source.history c.next_line.new.joint.source.now).left c.loop-line.invariant.at c.in-Ok.ensures.kept
@@ -121,6 +110,6 @@ loop-line-preserved g c =
           c.head.ensures holds c.take.new.self c.take.ensures.bytes c.take.ensures.room was.first was.room;
       name = c.in-Ok.ensures.same_source ∙ was.name;
       sink = c.in-Ok.ensures.sink ∙ was.sink;
-      is_open = c.in-Ok.ensures.is_open c.in-Newline.count (ap Ok c.in-Newline.is);
+      is_open = c.in-Ok.ensures.is_open c.in-Newline.count (rw c.in-Newline.is);
       no_faults = c.in-Ok.ensures.cause.no_faults ∙ was.no_faults;
     }

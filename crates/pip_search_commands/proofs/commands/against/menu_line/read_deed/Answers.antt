@@ -1,6 +1,5 @@
-use Rattle.std.proofs.Common.{◌≡◌, ◌+◌, ap, ◌∙◌, sym, length, length-append, arith}
+use Rattle.std.proofs.Common.{◌≡◌, ◌+◌, ap, ◌∙◌, length, length-append, arith}
 use Rattle.std.specs.Prelude.{codes, option_and_then}
-use Rattle.pip_model.specs.Grammar.{line_meaning}
 use Rattle.pip_script.specs.Words.{after_word, first_word}
 use Rattle.pip_search_commands.specs.MenuText.{line_deed}
 use Rattle.pip_search_commands.proofs.MenuLines.{built, deed_is, word_then}
@@ -12,9 +11,8 @@ push_all-requires c =
     let none = ap length c.new-line.ensures in
     let word = ap length c.split_word.ensures.word in
     let whole : length text ≡ length (first_word text) + length (after_word text) =
-    sym (ap length (word_then text)) ∙ length-append (first_word text) (after_word text) in
-    let short = c.requires in
-    omega (arith, none, word, whole, short)
+    cc (word_then text, length-append (first_word text) (after_word text)) in
+    omega arith
 
 pub push_all-requires-2 : goal.push_all-requires-2
 push_all-requires-2 c =
@@ -23,9 +21,8 @@ push_all-requires-2 c =
     let word = ap length c.split_word.ensures.word in
     let one = ap length c.push_all.ensures ∙ length-append c.new-line.result.items c.split_word.result.0.now in
     let whole : length text ≡ length (first_word text) + length (after_word text) =
-    sym (ap length (word_then text)) ∙ length-append (first_word text) (after_word text) in
-    let short = c.requires in
-    omega (arith, none, word, one, whole, short)
+    cc (word_then text, length-append (first_word text) (after_word text)) in
+    omega arith
 
 pub push_all-requires-3 : goal.push_all-requires-3
 push_all-requires-3 c =
@@ -36,9 +33,8 @@ push_all-requires-3 c =
     let one = ap length c.push_all.ensures ∙ length-append c.new-line.result.items c.split_word.result.0.now in
     let two = ap length c.push_all-2.ensures ∙ length-append c.push_all.new.line.items (codes " 0") in
     let whole : length text ≡ length (first_word text) + length (after_word text) =
-    sym (ap length (word_then text)) ∙ length-append (first_word text) (after_word text) in
-    let short = c.requires in
-    omega (arith, none, word, rest, one, two, whole, short)
+    cc (word_then text, length-append (first_word text) (after_word text)) in
+    omega arith
 
 pub returns-in-Some : goal.returns-in-Some
 returns-in-Some c =
@@ -47,7 +43,7 @@ returns-in-Some c =
     c.push_all-3.new.line.items c.split_word.result.0.now c.split_word.result.1.now text c.new-line.ensures
     c.push_all.ensures c.push_all-2.ensures c.push_all-3.ensures c.split_word.ensures.word c.split_word.ensures.rest in
     c.deed_in.ensures ∙ (ap (option_and_then line_deed) c.in-Some.ensures.meaning
-    ∙ (ap (λ bs. option_and_then line_deed (line_meaning 1 bs)) (c.deref.ensures.0 ∙ line) ∙ deed_is text c.requires))
+    ∙ (rw (c.deref.ensures.0, line, deed_is text c.requires)))
 
 pub returns-in-None : goal.returns-in-None
 returns-in-None c =
@@ -56,4 +52,4 @@ returns-in-None c =
     c.push_all-3.new.line.items c.split_word.result.0.now c.split_word.result.1.now text c.new-line.ensures
     c.push_all.ensures c.push_all-2.ensures c.push_all-3.ensures c.split_word.ensures.word c.split_word.ensures.rest in
     ap (option_and_then line_deed) c.in-None.ensures.meaning
-    ∙ (ap (λ bs. option_and_then line_deed (line_meaning 1 bs)) (c.deref.ensures.0 ∙ line) ∙ deed_is text c.requires)
+    ∙ (rw (c.deref.ensures.0, line, deed_is text c.requires))

@@ -9,9 +9,12 @@ use Rattle.pip_search_commands.proofs.commands.against.menu_line.read_may.Goals 
 pub returns-in_default : goal.returns-in_default
 returns-in_default c =
     let what = c.split_word.result.1.now in
-    sym (said_is c.args.line.now c.split_word.result.0.now what c.split_word.ensures.word c.split_word.ensures.rest
-    ∙ who_fails (who_of c.split_word.result.0.now) (deed_of (words_after what))
-    (sym c.read_who.ensures ∙ none_of c.read_who.result c.in_default.not-Some))
+    cc (
+      who_fails (who_of c.split_word.result.0.now) (deed_of (words_after what))
+          (sym c.read_who.ensures ∙ none_of c.read_who.result c.in_default.not-Some),
+      said_is c.args.line.now
+          c.split_word.result.0.now what c.split_word.ensures.word c.split_word.ensures.rest,
+    )
 
 pub read_deed-requires : goal.read_deed-requires
 read_deed-requires c =
@@ -22,20 +25,30 @@ read_deed-requires c =
 pub returns-in-Some-read_deed : goal.returns-in-Some-read_deed
 returns-in-Some-read_deed c =
     let what = c.split_word.result.1.now in
-    sym (said_is c.args.line.now c.split_word.result.0.now what c.split_word.ensures.word c.split_word.ensures.rest
-    ∙ both_said c.in-Some.name c.in-Some-read_deed.deed (who_of c.split_word.result.0.now) (deed_of (words_after what))
-    c.in-Some.ensures (c.in-Some-read_deed.ensures ∙ ap deed_of (words_behind what c.in-len1-up.len_at_least)))
+    cc (
+      both_said c.in-Some.name c.in-Some-read_deed.deed (who_of c.split_word.result.0.now)
+          (deed_of (words_after what)) c.in-Some.ensures (c.in-Some-read_deed.ensures ∙ ap deed_of
+          (words_behind what c.in-len1-up.len_at_least)),
+      said_is c.args.line.now c.split_word.result.0.now what
+          c.split_word.ensures.word c.split_word.ensures.rest,
+    )
 
 pub returns-in-None : goal.returns-in-None
 returns-in-None c =
     let what = c.split_word.result.1.now in
-    sym (said_is c.args.line.now c.split_word.result.0.now what c.split_word.ensures.word c.split_word.ensures.rest
-    ∙ what_fails c.in-Some.name (who_of c.split_word.result.0.now) (deed_of (words_after what)) c.in-Some.ensures
-    (sym (c.in-None.ensures ∙ ap deed_of (words_behind what c.in-len1-up.len_at_least))))
+    cc (
+      what_fails c.in-Some.name (who_of c.split_word.result.0.now) (deed_of (words_after what)) c.in-Some.ensures
+          (sym (c.in-None.ensures ∙ ap deed_of (words_behind what c.in-len1-up.len_at_least))),
+      said_is c.args.line.now
+          c.split_word.result.0.now what c.split_word.ensures.word c.split_word.ensures.rest,
+    )
 
 pub returns-in_default-what : goal.returns-in_default-what
 returns-in_default-what c =
     let what = c.split_word.result.1.now in
-    sym (said_is c.args.line.now c.split_word.result.0.now what c.split_word.ensures.word c.split_word.ensures.rest
-    ∙ what_fails c.in-Some.name (who_of c.split_word.result.0.now) (deed_of (words_after what)) c.in-Some.ensures
-    (ap deed_of (no_words what (search (rules, arith)))))
+    cc (
+      what_fails c.in-Some.name (who_of c.split_word.result.0.now) (deed_of (words_after what)) c.in-Some.ensures
+          (ap deed_of (no_words what (search (rules, arith)))),
+      said_is c.args.line.now c.split_word.result.0.now what
+          c.split_word.ensures.word c.split_word.ensures.rest,
+    )

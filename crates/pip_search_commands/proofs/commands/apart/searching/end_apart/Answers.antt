@@ -1,4 +1,4 @@
-use Rattle.std.proofs.Common.{ap, inl, inr}
+use Rattle.std.proofs.Common.{inl, inr}
 use Rattle.pip_search_commands.specs.ApartSearches.{knowledge_text}
 use Rattle.pip_search_commands.proofs.ApartFound.{found_apart}
 use Rattle.pip_search_commands.proofs.commands.apart.searching.end_apart.Goals as goal
@@ -9,7 +9,7 @@ returns-in-Ok-show-clause-ends g c = λ i b. inl (
   (
     found_apart c.args.states c.args.count c.args.seed c.args.begun.head c.args.begun.mem.block.frames c.in-Ok.known i
         b c.in-Ok.ensures.known,
-    inl (ap (λ e. e.status) c.with_status.ensures, c.in-Ok-show.ensures.wrote),
+    inl (rw c.with_status.ensures, c.in-Ok-show.ensures.wrote),
   ),
 )
 
@@ -20,7 +20,7 @@ returns-in-Ok-clause-ends g c = λ i b. inl (
     found_apart c.args.states c.args.count c.args.seed c.args.begun.head c.args.begun.mem.block.frames c.in-Ok.known i
         b c.in-Ok.ensures.known,
     inr (
-      ap (λ e. e.status) c.with_status-in-Err-show.ensures,
+      rw c.with_status-in-Err-show.ensures,
       c.in-Err-show.ensures.wrote,
       c.in-Err-show.ensures.cause.failed,
     ),

@@ -1,4 +1,4 @@
-use Rattle.std.proofs.Common.{ap, inl, inr}
+use Rattle.std.proofs.Common.{inl, inr}
 use Rattle.pip_search_commands.specs.MenuReading.{menu_said}
 use Rattle.pip_search_commands.specs.Searches.{told_text}
 use Rattle.pip_search_commands.proofs.Searched.{searched}
@@ -11,7 +11,7 @@ returns-in-Ok-show-clause-ends g c = λ i b. inl (
     searched (menu_said c.args.menu.now) c.args.states c.args.from c.args.depth c.args.start
         c.args.begun.head
         c.args.begun.mem.block.frames c.in-Ok.told i b c.in-Ok.ensures.found,
-    inl (ap (λ e. e.status) c.with_status.ensures, c.in-Ok-show.ensures.wrote),
+    inl (rw c.with_status.ensures, c.in-Ok-show.ensures.wrote),
   ),
 )
 
@@ -23,7 +23,7 @@ returns-in-Ok-clause-ends g c = λ i b. inl (
         c.args.begun.head
         c.args.begun.mem.block.frames c.in-Ok.told i b c.in-Ok.ensures.found,
     inr (
-      ap (λ e. e.status) c.with_status-in-Err-show.ensures,
+      rw c.with_status-in-Err-show.ensures,
       c.in-Err-show.ensures.wrote,
       c.in-Err-show.ensures.cause.failed,
     ),

@@ -1,6 +1,5 @@
 -- The search begins at the world after the steps.
-use Rattle.std.proofs.Common.{◌≡◌, ◌∙◌, ◌++◌, ap, sym, length, subst, List, ℕ, ◌<◌}
-use Rattle.std.specs.List.{All}
+use Rattle.std.proofs.Common.{◌≡◌, ◌∙◌, ◌++◌, ap, length, subst, List, ℕ}
 use Rattle.pip_base.specs.declared.types.Plan.{Plan}
 use Rattle.pip_every.specs.Again.{AreSaid}
 use Rattle.pip_every.specs.Away.{IsAwayReply}
@@ -9,7 +8,6 @@ use Rattle.pip_every.specs.Menus.{Menu, menu_model, usual_choices}
 use Rattle.pip_every.specs.Moments.{Moment, moment_at}
 use Rattle.pip_every.specs.declared.menus.May.{May}
 use Rattle.pip_model.specs.Acts.{after_acts}
-use Rattle.pip_model.specs.Booted.{IsBooted}
 use Rattle.pip_model.specs.Run.{steps}
 use Rattle.pip_model.specs.Worlds.{boot_world_with}
 use Rattle.pip_search.specs.Summary.{IsTold}
@@ -28,14 +26,14 @@ search_on-requires-clause-stands g c =
     let w = boot_world_with b.words b.frames c.args.head.now.cpus in (
       after_acts w (steps w c.args.plans.now c.args.start.seed (length c.new-machine.result.cpus) c.args.start.count 0),
       c.pass.ensures.stands _ (c.new-machine.ensures.stands b.frames b.words
-          (subst (IsBooted b.frames b.words) (sym c.in_ok-journal.ensures) b.booted)),
+          (rw c.in_ok-journal.ensures b.booted)),
     )
 
 pub search_on-requires-clause-below : goal.search_on-requires-clause-below
 search_on-requires-clause-below g c =
-    let lines = c.as_slice-3.ensures.value ∙ (c.planned_lines-lines.ensures ∙ ap lines_planned c.as_slice.ensures.value)
+    let lines = c.as_slice-3.ensures.value ∙ (rw (c.planned_lines-lines.ensures, c.as_slice.ensures.value))
     in
-    subst (All (λ line. line < 16)) (sym lines) (lines_below c.args.head.now.plans.items c.requires.limits.lines)
+    rw lines (lines_below c.args.head.now.plans.items c.requires.limits.lines)
 
 pub returns-clause-ways : goal.returns-clause-ways
 returns-clause-ways g c = record { ways = c.in_ok-ways.ensures; traced = c.in_ok-search.ensures.traced }
@@ -45,7 +43,7 @@ returns-clause-replies g c =
     let b = c.requires.booted in
     let w = boot_world_with b.words b.frames c.args.head.now.cpus in
     let stands = c.pass.ensures.stands w (c.new-machine.ensures.stands b.frames b.words
-    (subst (IsBooted b.frames b.words) (sym c.in_ok-journal.ensures) b.booted)) in
+    (rw c.in_ok-journal.ensures b.booted)) in
     let said = c.in_ok-search.ensures.said _ c.args.mem.block.frames stands in
     let coming = c.in_ok-search.ensures.coming _ c.args.mem.block.frames stands in
     record { again = said.count; comes = coming.count }
@@ -54,7 +52,7 @@ pub returns-clause-found : goal.returns-clause-found
 returns-clause-found g c = λ n words is.
     let h = c.args.head.now in
     let first = c.args.mem.block.frames in
-    let lines = c.as_slice-3.ensures.value ∙ (c.planned_lines-lines.ensures ∙ ap lines_planned c.as_slice.ensures.value)
+    let lines = c.as_slice-3.ensures.value ∙ (rw (c.planned_lines-lines.ensures, c.as_slice.ensures.value))
     in
     let found = c.in_ok-search.search.found.items in
     let visits = c.in_ok-search.search.visits.items in
@@ -71,7 +69,7 @@ returns-clause-found g c = λ n words is.
     let w = boot_world_with words n h.cpus in
     let stands = subst (λ k. StandsAs c.pass.new.machine (after_acts w (steps w c.args.plans.now c.args.start.seed k
     c.args.start.count 0))) c.new-machine.ensures.count (c.pass.ensures.stands w (c.new-machine.ensures.stands n words
-    (subst (IsBooted n words) (sym c.in_ok-journal.ensures) is))) in
+    (rw c.in_ok-journal.ensures is))) in
     let replies = c.in_ok-search.replies in
     let asked = menu_said c.args.menu.now in
     let IsFound : List Plan → ℕ → ℕ → List ℕ → List May → Type 0 = λ ps most k ls may.
@@ -81,16 +79,12 @@ returns-clause-found g c = λ n words is.
     × (AreComing (menu_model first (menu k ls may)) (own_classes (usual_choices (menu k ls may))) (at ps) asked.comes
     verdict replies.comes.items
     × IsAwayReply first asked.out (menu k ls may) (at ps) verdict replies.away)) in
-    subst (λ ps. IsFound ps (most_choices c.args.depth) h.cpus (lines_planned h.plans.items) asked.may)
-    c.requires.same
-    (subst (λ m. IsFound c.args.plans.now m h.cpus (lines_planned h.plans.items) asked.may) most
+    rw c.requires.same at (subst (λ m. IsFound c.args.plans.now m h.cpus (lines_planned h.plans.items) asked.may) most
     (subst (λ k. IsFound c.args.plans.now c.unwrap_or-most.result k (lines_planned h.plans.items) asked.may) cpus
-    (subst (λ ls. IsFound c.args.plans.now c.unwrap_or-most.result (length c.pass.new.machine.cpus) ls asked.may)
-    lines
+    (subst (λ ls. IsFound c.args.plans.now c.unwrap_or-most.result (length c.pass.new.machine.cpus) ls asked.may) lines
     (subst (λ may. IsFound c.args.plans.now c.unwrap_or-most.result (length c.pass.new.machine.cpus)
-    c.as_slice-3.result.now may)
-    (c.in_ok-extend_from_slice.ensures.items ∙ ap (λ xs. xs ++ c.as_slice-2.result.now) c.new-may.ensures.items
-    ∙ c.as_slice-2.ensures.value) (
+    c.as_slice-3.result.now may) (c.in_ok-extend_from_slice.ensures.items ∙ ap (λ xs. xs ++ c.as_slice-2.result.now)
+    c.new-may.ensures.items ∙ c.as_slice-2.ensures.value) (
       c.in_ok-search.ensures.told _ first stands is.laid.shape c.requires.count,
       (
         c.in_ok-search.ensures.said _ first stands,

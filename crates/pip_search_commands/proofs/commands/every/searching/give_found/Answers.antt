@@ -1,9 +1,7 @@
-use Rattle.std.proofs.Common.{◌∙◌, ap, length, subst}
+use Rattle.std.proofs.Common.{◌∙◌, ap, length}
 use Rattle.std.proofs.lemmas.Result.{MatchResult-from_err}
-use Rattle.pip_io.specs.Taken.{Appends, AppendsPart, Wrote}
 use Rattle.pip_model.specs.Run.{trace_image_line}
 use Rattle.pip_search.specs.Ways.{witnesses_of}
-use Rattle.pip_ways.specs.Texts.{search_text}
 use Rattle.pip_io.proofs.Piecewise.{part_longer, wrote_of}
 use Rattle.pip_command_contracts.specs.Planned.{lines_planned}
 use Rattle.pip_search_commands.proofs.commands.every.searching.give_found.Goals as goal
@@ -13,9 +11,7 @@ returns-in_err-write_image-clause-wrote g c =
     MatchResult-from_err c.from_residual.result _ _ c.from_residual.ensures.0 (λ _.
     let h = c.args.head.now in
     part_longer _ _ (trace_image_line h.frames h.cpus (length h.plans.items) h.pages) _
-    (subst (λ n. AppendsPart (g.K.Sink.history c.args.sink.now).written
-    (g.K.Sink.history c.write_image.new.sink).written
-    (trace_image_line h.frames h.cpus n h.pages)) c.len.ensures.value c.in_err-write_image.ensures.wrote))
+    (rw (← c.len.ensures.value) c.in_err-write_image.ensures.wrote))
 
 pub returns-clause-wrote : goal.returns-clause-wrote
 returns-clause-wrote g c =
@@ -25,8 +21,5 @@ returns-clause-wrote g c =
     let lines = c.as_slice-2.ensures.value ∙ (c.planned_lines-lines.ensures ∙ ap lines_planned c.as_slice.ensures.value)
     in
     wrote_of _ _ _ (trace_image_line h.frames h.cpus (length h.plans.items) h.pages) _ c.write_search.result
-    (subst (λ n. Appends (g.K.Sink.history c.args.sink.now).written (g.K.Sink.history c.write_image.new.sink).written
-    (trace_image_line h.frames h.cpus n h.pages)) c.len.ensures.value c.in_ok-write_image.ensures.wrote)
-    (subst (λ ls. Wrote c.write_search.result (g.K.Sink.history c.write_image.new.sink).written
-    (g.K.Sink.history c.write_search.new.sink).written
-    (search_text h.cpus ls ws (length t.search.visits.items) t.verdict)) lines c.write_search.ensures.wrote)
+    (rw c.len.ensures.value at c.in_ok-write_image.ensures.wrote)
+    (rw (← lines) c.write_search.ensures.wrote)

@@ -1,7 +1,6 @@
-use Rattle.std.proofs.Common.{◌≡◌, ◌∙◌, ap, length, subst, sym}
+use Rattle.std.proofs.Common.{◌≡◌, ◌∙◌, ap}
 use Rattle.std.proofs.lemmas.List.{length-map}
 use Rattle.std.proofs.lemmas.Result.{MatchResult-from_err}
-use Rattle.pip_io.specs.Taken.{Appends, AppendsPart, Wrote}
 use Rattle.pip_io.proofs.Piecewise.{part_longer, wrote_of}
 use Rattle.pip_command_contracts.specs.Planned.{lines_planned}
 use Rattle.pip_search_commands.specs.EveryText.{again_text, comes_text, label_bytes}
@@ -10,13 +9,23 @@ use Rattle.pip_search_commands.proofs.commands.every.searching.give_replies.Goal
 
 pub write_said-requires-clause-count : goal.write_said-requires-clause-count
 write_said-requires-clause-count g c =
-    ap length c.as_slice-4.ensures.value ∙ (c.requires.replies.again
-    ∙ (length-map c.args.menu.now.asked.again.items (λ l. l.items) ∙ sym (ap length c.as_slice-3.ensures.value)))
+    rw (
+      c.as_slice-4.ensures.value,
+      c.requires.replies.again,
+      length-map c.args.menu.now.asked.again.items
+          (λ l. l.items),
+      ← c.as_slice-3.ensures.value,
+    )
 
 pub write_coming-requires-clause-count : goal.write_coming-requires-clause-count
 write_coming-requires-clause-count g c =
-    ap length c.as_slice-7.ensures.value ∙ (c.requires.replies.comes
-    ∙ (length-map c.args.menu.now.asked.comes.items (λ l. l.items) ∙ sym (ap length c.as_slice-6.ensures.value)))
+    rw (
+      c.as_slice-7.ensures.value,
+      c.requires.replies.comes,
+      length-map c.args.menu.now.asked.comes.items
+          (λ l. l.items),
+      ← c.as_slice-6.ensures.value,
+    )
 
 pub returns-in_err-write_said-clause-wrote : goal.returns-in_err-write_said-clause-wrote
 returns-in_err-write_said-clause-wrote g c =
@@ -30,8 +39,7 @@ returns-in_err-write_said-clause-wrote g c =
     ≡ again_text h.cpus (lines_planned h.plans.items) menu.again t.replies.again.items =
     cc (lines, c.as_slice-3.ensures.value, c.as_slice-4.ensures.value) in
     part_longer _ _ (again_text h.cpus (lines_planned h.plans.items) menu.again t.replies.again.items) _
-    (subst (AppendsPart (g.K.Sink.history c.args.sink.now).written (g.K.Sink.history c.write_said.new.sink).written)
-    same c.in_err-write_said.ensures.wrote))
+    (rw (← same) c.in_err-write_said.ensures.wrote))
 
 pub returns-clause-wrote : goal.returns-clause-wrote
 returns-clause-wrote g c =
@@ -47,7 +55,5 @@ returns-clause-wrote g c =
     cc (c.as_slice-5.ensures.value, planned, c.as_slice-6.ensures.value, c.as_slice-7.ensures.value) in
     wrote_of _ _ _ (again_text h.cpus (lines_planned h.plans.items) menu.again t.replies.again.items) _
     c.write_coming.result
-    (subst (Appends (g.K.Sink.history c.args.sink.now).written (g.K.Sink.history c.write_said.new.sink).written) again
-    c.in_ok-write_said.ensures.wrote)
-    (subst (Wrote c.write_coming.result (g.K.Sink.history c.write_said.new.sink).written
-    (g.K.Sink.history c.write_coming.new.sink).written) comes c.write_coming.ensures.wrote)
+    (rw again at c.in_ok-write_said.ensures.wrote)
+    (rw (← comes) c.write_coming.ensures.wrote)
