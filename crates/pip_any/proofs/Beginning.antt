@@ -22,9 +22,12 @@ use Rattle.pip_any.specs.Begins.{ImagesLookAlike, StepsDependOnOutside}
 pub images_look_alike : ImagesLookAlike
 images_look_alike own look i j f c h =
     subst (λ n. Alike own look (image_world i) (boot_world_with (image_word j.frames j.pages) n j.cpus)) f
-    (subst (λ n. Alike own look (image_world i) (boot_world_with (image_word j.frames j.pages) i.frames n)) c
-    (record {
-      tree = record { nodes = refl; words = λ g. page g (nat_le (first_user i.frames) g && nat_lt g i.frames) };
+    (rw (← c) (record {
+      tree = record {
+        nodes = refl;
+        words = λ g. page g
+            (nat_le (first_user i.frames) g && nat_lt g i.frames);
+      };
       cpus = cpus_alike_same own (image_world i).cpus;
     }))
   where
@@ -61,14 +64,14 @@ steps_depend_on_outside own look w v plans seed c (suc n) t a m =
     turns_depend_on_outside own look w' v' cpu t (raises_alike own look plans t w v a) m.0 in
     let st : List Act = step w plans cpu t in
     let tt' : List Act = step v plans cpu t in
-    let same : st ≡ tt' = ap (λ l. rs ++ l) one.acts in
+    let same : st ≡ tt' = rw one.acts in
     let next : Alike own look (after_acts w st) (after_acts v tt') =
-    subst (λ x. Alike own look x (after_acts v tt')) (sym (after-append w rs (turn w' cpu t)))
-    (subst (Alike own look (after_acts w' (turn w' cpu t))) (sym (after-append v rs (turn v' cpu t))) one.world) in
+    rw (after-append w rs (turn w' cpu t)) (subst (Alike own look (after_acts w' (turn w' cpu t)))
+    (sym (after-append v rs (turn v' cpu t))) one.world) in
     let rest = steps_depend_on_outside own look (after_acts w st) (after_acts v tt') plans seed c n (t + 1) next m.1 in
     let ws : List Act = steps (after_acts w st) plans seed c n (t + 1) in
     let vs : List Act = steps (after_acts v tt') plans seed c n (t + 1) in (
       ap₂ (λ x y. x ++ y) same rest.0,
-      subst (λ x. Alike own look x (after_acts v (tt' ++ vs))) (sym (after-append w st ws))
-          (subst (Alike own look (after_acts (after_acts w st) ws)) (sym (after-append v tt' vs)) rest.1),
+      rw (after-append w st ws) (subst (Alike own look (after_acts (after_acts w st) ws)) (sym (after-append v tt' vs))
+          rest.1),
     )

@@ -61,7 +61,7 @@ poll_either : (w : World) (cpu : ℕ) (r : Occupant) → runs_on w cpu ≡ Some 
 poll_either w cpu r e = go (may_take w cpu (runs_on w cpu)) (lowest_line w w.tree.root.pending) refl
   where
     vain : (h : Happened) → h ≡ none_taken w (runs_on w cpu) → with_caches w.caches h ≡ done w
-    vain h k = ap (with_caches w.caches) (k ∙ ap (none_taken w) e)
+    vain h k = rw (k, e)
 
     go : (b : Bool) (j : Option ℕ)
         → poll w cpu (runs_on w cpu)
@@ -79,7 +79,7 @@ poll_either w cpu r e = go (may_take w cpu (runs_on w cpu)) (lowest_line w w.tre
 get_below : {X : Type 0} (xs : List X) (i : ℕ) (x : X) → slice_get xs i ≡ Some x → i < length xs
 get_below [] i x e = cc
 get_below (y ∷ ys) zero x e = omega arith
-get_below (y ∷ ys) (suc i) x e = let l = get_below ys i x e in omega (arith, l)
+get_below (y ∷ ys) (suc i) x e = omega (arith, get_below ys i x e)
 
 -- no line of a menu is of nobody
 pub nobody_hostile : (root : ℕ) (ds : List May) → is_hostile root None ds ≡ true → ⊥
@@ -98,26 +98,23 @@ module _ (own : List ℕ) (look : ℕ → ℕ → ℕ → ℕ) (g : Menu) (w : W
   there = lt-ltb cpu g.scope.cpus lt
 
   usual : cpu < usual_choices g
-  usual = omega (arith, lt)
+  usual = omega arith
 
   outside_has : is_hostile v.tree.root.name (name_on v cpu) g.may ≡ false → HasChoice own look g w cpu m
   outside_has f =
       let pick : picked g v cpu ≡ Usual = goes_is g v cpu usual
-      (ap (λ b. b && is_hostile v.tree.root.name (name_on v cpu) g.may) there ∙ f) in
-      let acts : pick_acts g m cpu (picked g v cpu) ≡ turn v cpu 0 = ap (pick_acts g m cpu) pick
-      ∙ turn_chosen g.scope m cpu lt in
+      (rw (there, f)) in
+      let acts : pick_acts g m cpu (picked g v cpu) ≡ turn v cpu 0 = rw (pick, turn_chosen g.scope m cpu lt) in
       let turns : pick_turns g m cpu (picked g v cpu) ≡ turns_after g.scope.from m.turns (turn_end v cpu) =
-      ap (pick_turns g m cpu) pick ∙ more_turns g.scope m cpu lt in
+      rw (pick, more_turns g.scope m cpu lt) in
       let t : IsOneTurn own look cpu 0 v w =
       turns_depend_on_outside own look v w cpu 0 (alike_back own look w v a) (l.turn f) in
       record {
         choice = cpu;
-        can = omega (arith, lt);
-        counts = subst (λ n. (g.scope.from ≤ n) ⊎ (m.turns < n)) (sym turns)
-            (counted g.scope.from m.turns (turn_end v cpu));
-        same = inl (ap text_of (acts ∙ t.acts));
-        alike = subst (λ es. Alike own look (after_acts w (turn w cpu 0)) (after_acts v es)) (sym acts)
-            (alike_back own look _ _ t.world);
+        can = omega arith;
+        counts = rw turns (counted g.scope.from m.turns (turn_end v cpu));
+        same = inl (rw (acts, t.acts));
+        alike = rw acts (alike_back own look _ _ t.world);
       }
 
   -- ---- a hostile partition
@@ -129,18 +126,16 @@ module _ (own : List ℕ) (look : ℕ → ℕ → ℕ → ℕ) (g : Menu) (w : W
       → (label ≡ text_of (turn w cpu 0)) ⊎ TurnStaysInside own look w cpu → HasChoice own look g w cpu m
   waits h label b shows same =
       let pick : picked g v cpu ≡ Hostile cpu None = waits_is g v cpu usual
-      (ap (λ b. b && is_hostile v.tree.root.name (name_on v cpu) g.may) there ∙ h) in
-      let acts : pick_acts g m cpu (picked g v cpu) ≡ hostile_acts v cpu None = ap (pick_acts g m cpu) pick in
+      (rw (there, h)) in
+      let acts : pick_acts g m cpu (picked g v cpu) ≡ hostile_acts v cpu None = rw pick in
       let turns : pick_turns g m cpu (picked g v cpu) ≡ turns_after g.scope.from m.turns N.Ran =
-      ap (pick_turns g m cpu) pick in
+      rw pick in
       record {
         choice = cpu;
-        can = omega (arith, lt);
-        counts = subst (λ n. (g.scope.from ≤ n) ⊎ (m.turns < n)) (sym turns) (counted g.scope.from m.turns N.Ran);
-        same = subst (λ x. (x ≡ text_of (turn w cpu 0)) ⊎ TurnStaysInside own look w cpu)
-            (sym (ap text_of acts ∙ shows)) same;
-        alike = subst (λ es. Alike own look (after_acts w (turn w cpu 0)) (after_acts v es)) (sym acts)
-            (polled (outcome_of v (E.Poll cpu)) b);
+        can = omega arith;
+        counts = rw turns (counted g.scope.from m.turns N.Ran);
+        same = rw (acts, shows) same;
+        alike = rw acts (polled (outcome_of v (E.Poll cpu)) b);
       }
     where
       polled : (o : Outcome) → Alike own look (after_acts w (turn w cpu 0)) (world_of v (E.Poll cpu))
@@ -170,15 +165,14 @@ module _ (own : List ℕ) (look : ℕ → ℕ → ℕ → ℕ) (g : Menu) (w : W
       let u : ℕ = usual_choices g in
       let k : ℕ = u + (x.place * c + cpu) in
       let left : k - u ≡ x.place * c + cpu = omega arith in
-      let row : (k - u) / c ≡ x.place = ap (λ n. n / c) left ∙ div-mul-add x.place c cpu lt in
-      let column : deed_cpu g k ≡ cpu = ap (λ n. n % c) left ∙ mod-mul-add x.place c cpu lt in
-      let at = deed_is g k x.may (omega arith) (ap (slice_get g.may) row ∙ x.at) in
+      let row : (k - u) / c ≡ x.place = rw (left, div-mul-add x.place c cpu lt) in
+      let column : deed_cpu g k ≡ cpu = rw (left, mod-mul-add x.place c cpu lt) in
+      let at = deed_is g k x.may (omega arith) (rw (row, x.at)) in
       let pick : picked g v k ≡ Hostile cpu (Some x.may.deed) =
-      own_is g v k x.may at (ap (λ n. is_its v.tree.root.name (name_on v n) x.may) column ∙ x.its)
-      ∙ ap (λ n. Hostile n (Some x.may.deed)) column in
-      let acts : pick_acts g m k (picked g v k) ≡ hostile_acts v cpu (Some x.may.deed) = ap (pick_acts g m k) pick in
+      rw (own_is g v k x.may at (ap (λ n. is_its v.tree.root.name (name_on v n) x.may) column ∙ x.its), column) in
+      let acts : pick_acts g m k (picked g v k) ≡ hostile_acts v cpu (Some x.may.deed) = rw pick in
       let turns : pick_turns g m k (picked g v k) ≡ turns_after g.scope.from m.turns N.Ran =
-      ap (pick_turns g m k) pick in
+      rw pick in
       let shows : text_of (hostile_acts v cpu (Some x.may.deed))
       ≡ deed_line cpu x.may.deed (outcome_of v (deed_event cpu x.may.deed)) =
       ap (λ h. text_of (acts_after_line h.world cpu (Some x.may.deed) h.outcome)) vain' ∙ append-nil _ in
@@ -187,12 +181,12 @@ module _ (own : List ℕ) (look : ℕ → ℕ → ℕ → ℕ) (g : Menu) (w : W
       let few = mul-add-lt x.place c cpu (length g.may) (get_below g.may x.place x.may x.at) lt in
       record {
         choice = k;
-        can = omega (arith, few);
-        counts = subst (λ n. (g.scope.from ≤ n) ⊎ (m.turns < n)) (sym turns) (counted g.scope.from m.turns N.Ran);
-        same = inl (ap text_of acts ∙ shows ∙ sym x.same ∙ sym (ap text_of (turn_is vain)));
-        alike = subst (λ y. Alike own look y (after_acts v (pick_acts g m k (picked g v k)))) (sym (turn_leads vain))
-            (subst (λ es. Alike own look (after_acts w (fetch_acts w 0 cpu)) (after_acts v es)) (sym acts)
-            (subst (Alike own look (after_acts w (fetch_acts w 0 cpu))) (sym leads) x.alike));
+        can = omega arith;
+        counts = rw turns (counted g.scope.from m.turns N.Ran);
+        same = inl (cc (x.same, turn_is vain));
+        alike = rw (turn_leads vain) (subst (λ es. Alike own look (after_acts w (fetch_acts w 0 cpu))
+            (after_acts v es)) (sym acts) (subst (Alike own look (after_acts w (fetch_acts w 0 cpu))) (sym leads)
+            x.alike));
       }
 
   hostile_has : RunsHostile g v cpu → TurnKeepsToMenu own look g w cpu → HasChoice own look g w cpu m
@@ -206,41 +200,35 @@ module _ (own : List ℕ) (look : ℕ → ℕ → ℕ → ℕ) (g : Menu) (w : W
           → FindsNoLine v cpu ⊎ ((p : ℕ) × (q : ℕ) × (j : ℕ) × (outcome_of v (E.Poll cpu) ≡ O.Switched p q j))
           → HasChoice own look g w cpu m
       polls (inl x) (inr y) =
-          let e : O.Switched y.0 y.1 y.2 ≡ O.Done = sym y.3 ∙ poll.outcome ∙ ap (λ h. h.outcome) x in cc
+          let e : O.Switched y.0 y.1 y.2 ≡ O.Done = cc (y.3, poll.outcome) in cc
       polls (inr x) (inl y) =
-          let e : O.Switched x.0 x.1 x.2 ≡ O.Done = sym x.3 ∙ sym poll.outcome ∙ ap (λ h. h.outcome) y in cc
+          let e : O.Switched x.0 x.1 x.2 ≡ O.Done = cc (x.3, poll.outcome) in cc
       polls (inl x) (inl y) = by (fetch_does own look g cpu v (l.deeds h y) w a (k x))
         where
           by : Does own look g cpu v (l.deeds h y) w (fetch_acts w 0 cpu) → HasChoice own look g w cpu m
           by (inr z) = does x y (l.deeds h y) z
           by (inl all) = waits h []
-              (subst (λ t. Alike own look t (world_of v (E.Poll cpu))) (sym (turn_leads x
-              ∙ after-events w (fetch_acts w 0 cpu)))
+              (rw (turn_leads x, after-events w (fetch_acts w 0 cpu))
               (subst (λ t. Alike own look (after w (events_made (fetch_acts w 0 cpu))) t) (sym (ap (λ h. h.world) y))
               (unseen_alike own look g cpu v (l.deeds h y) (events_made (fetch_acts w 0 cpu)) w v all a)))
               (ap (λ h. text_of (acts_after_line h.world cpu None h.outcome)) y)
               (inr (record { vain = x; unseen = all }))
       polls (inr x) (inr y) = waits h (text_of (move_acts 0 cpu (O.Switched y.0 y.1 y.2)))
-          (subst (λ t. Alike own look t (world_of v (E.Poll cpu))) (sym switched_to)
-          (alike_back own look _ _ poll.world))
-          (ap (λ o. text_of (acts_after_line (world_of v (E.Poll cpu)) cpu None o)) y.3)
-          (inl (sym (ap (λ o. text_of (acts_after_poll (world_of w (E.Poll cpu)) 0 cpu o))
-          (sym poll.outcome ∙ y.3))))
+          (rw switched_to (alike_back own look _ _ poll.world))
+          (rw y.3)
+          (inl (cc (y.3, poll.outcome)))
         where
           switched_to : after_acts w (turn w cpu 0) ≡ world_of w (E.Poll cpu)
-          switched_to = ap (λ o. after_acts (world_of w (E.Poll cpu)) (acts_after_poll (world_of w (E.Poll cpu))
-              0 cpu o))
-              (sym poll.outcome ∙ y.3)
+          switched_to = rw (← poll.outcome, y.3)
 
       runs : (o p : Option Occupant) → runs_on v cpu ≡ o → runs_on w cpu ≡ p
           → AlikeOn own (runs_on w cpu) (runs_on v cpu)
           → HasChoice own look g w cpu m
       runs None p e f b =
           let x : is_hostile v.tree.root.name None g.may ≡ true =
-          sym (ap (λ o. is_hostile v.tree.root.name (option_map (λ r. r.name) o) g.may) e) ∙ h in
+          cc in
           absurd (nobody_hostile v.tree.root.name g.may x)
-      runs (Some r) None e f b = absurd (subst (λ o. AlikeOn own o (Some r)) f (subst (AlikeOn own (runs_on w cpu))
-          e b))
+      runs (Some r) None e f b = absurd (rw f at (subst (AlikeOn own (runs_on w cpu)) e b))
       runs (Some r) (Some q) e f b = polls (poll_either w cpu q f) (poll_either v cpu r e)
 
 pub turns_have_choices : TurnsHaveChoices

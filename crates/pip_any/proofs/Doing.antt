@@ -48,7 +48,7 @@ name_alike own look w v cpu a = go (runs_on w cpu) (runs_on v cpu) (runs_alike o
     go None None l = refl
     go None (Some q) l = absurd l
     go (Some r) None l = absurd l
-    go (Some r) (Some q) l = ap Some l.0
+    go (Some r) (Some q) l = rw l.0
 
 -- ---- lines
 
@@ -64,7 +64,7 @@ line_of cpu (E.Poll c) o = []
 line_of cpu (E.SetContext c x) o = []
 
 line_same : (cpu : ℕ) (d : Deed) (e : Event) (o : Outcome) → StandsForEvent d e → line_of cpu e o ≡ deed_line cpu d o
-line_same cpu (D.Call number args) (E.Call c n a) o s = ap (λ x. call_line 0 cpu x o) s
+line_same cpu (D.Call number args) (E.Call c n a) o s = rw s
 line_same cpu (D.Call number args) (E.Load c a z) o s = absurd s
 line_same cpu (D.Call number args) (E.Store c a z x) o s = absurd s
 line_same cpu (D.Call number args) (E.Fetch c) o s = absurd s
@@ -115,16 +115,15 @@ gave_word w cpu r va z (Faulted f) a n = absurd a
 no_answer : (own : List ℕ) (look : ℕ → ℕ → ℕ → ℕ) (x v : World) (cpu : ℕ) (d : Deed) → Alike own look x v
     → IsNoWord (event x (deed_event cpu d)).outcome → DeedAnswers v cpu d → ⊥
 no_answer own look x v cpu (D.Load va z) a n m =
-    by (runs_on x cpu) refl (subst (AlikeOn own (runs_on x cpu)) m.1 (runs_alike own look x v cpu a))
+    by (runs_on x cpu) refl (rw (← m.1) (runs_alike own look x v cpu a))
   where
     by : (o : Option Occupant) → runs_on x cpu ≡ o → AlikeOn own o (Some m.0) → ⊥
     by None k b = b
     by (Some q) k b =
         let there : reach x.tree q.name va Load z ≡ reach v.tree m.0.name va Load z =
-        ap (λ p. reach x.tree p va Load z) b.0 ∙ reach_alike look x.tree v.tree m.0.name va Load z a.tree in
-        gave_word x cpu q va z (reach x.tree q.name va Load z) (subst Answers (sym there) m.2)
-        (subst (λ h. IsNoWord h.outcome) (ap (λ o. on_running x cpu o
-        (λ r. load_happens x cpu r va Load z (reach x.tree r.name va Load z))) k) n)
+        cc (b.0, reach_alike look x.tree v.tree m.0.name va Load z a.tree) in
+        gave_word x cpu q va z (reach x.tree q.name va Load z) (rw there m.2)
+        (rw k at n)
 no_answer own look x v cpu (D.StoreWord va y) a n m = m
 no_answer own look x v cpu (D.StoreByte va y) a n m = m
 no_answer own look x v cpu (D.Trap k y z) a n m = m
@@ -166,7 +165,7 @@ module _ (own : List ℕ) (look : ℕ → ℕ → ℕ → ℕ) (g : Menu) (cpu :
       → Does x (Makes e ∷ acts)
   goes_on x e acts m (inl all) = inl (m, all)
   goes_on x e acts m (inr l) =
-      inr (record { place = l.place; may = l.may; at = l.at; its = l.its; same = l.same; alike = l.alike })
+      inr (search)
 
   -- an event is on the menu, and what comes after it stays inside
   leaves : (x : World) (e : Event) (acts : List Act) → Alike own look x v → IsOnMenu own look g x cpu e
@@ -177,11 +176,9 @@ module _ (own : List ℕ) (look : ℕ → ℕ → ℕ → ℕ) (g : Menu) (cpu :
     may = m.may;
     at = m.at;
     its = its;
-    same = shows ∙ ap (line_of cpu e) outcome ∙ line_same cpu m.may.deed e (outcome_of v (deed_event cpu m.may.deed))
-        m.stands;
-    alike = subst (λ y. Alike own look y (world_of v (deed_event cpu m.may.deed)))
-        (sym (after-events (world_of x e) acts))
-        (unseen_alike (events_made acts) (world_of x e) (world_of v (deed_event cpu m.may.deed)) all after_it);
+    same = rw (shows, outcome, line_same cpu m.may.deed e (outcome_of v (deed_event cpu m.may.deed)) m.stands);
+    alike = rw (after-events (world_of x e) acts) (unseen_alike (events_made acts) (world_of x e)
+        (world_of v (deed_event cpu m.may.deed)) all after_it);
   }
     where
       its : is_its v.tree.root.name (name_on v cpu) m.may ≡ true
@@ -191,7 +188,7 @@ module _ (own : List ℕ) (look : ℕ → ℕ → ℕ → ℕ) (g : Menu) (cpu :
       there : IsAlike own look (deed_event cpu m.may.deed) v x
       there = outside_depends_on_outside own look v x (deed_event cpu m.may.deed) (alike_back own look x v a)
           (deeds m.place m.may m.at its (no_answer own look x v cpu m.may.deed a
-          (subst IsNoWord m.outcome m.word)))
+          (rw (← m.outcome) m.word)))
 
       outcome : outcome_of x e ≡ outcome_of v (deed_event cpu m.may.deed)
       outcome = m.outcome ∙ sym there.outcome
@@ -282,9 +279,9 @@ module _ (own : List ℕ) (look : ℕ → ℕ → ℕ → ℕ) (g : Menu) (cpu :
           → Does x (Makes (E.Fetch cpu) ∷ acts_after_fetch y 0 cpu o)
       by (O.Word u) e (inl m) k = goes_on x (E.Fetch cpu) (word_acts y 0 cpu u (runs_on y cpu)) m
           (word u (runs_on y cpu) (unseen_alike (E.Fetch cpu ∷ []) x v (m, tt) h) k)
-      by (O.Word u) e (inr m) k = absurd (subst IsNoWord e m.word)
+      by (O.Word u) e (inr m) k = absurd (rw e at m.word)
       by O.Done e n k = one_event x (E.Fetch cpu) _ h n tt (append-nil _ ∙ sym (ap (moved_line 0 cpu) e))
       by (O.Reply s z) e n k = one_event x (E.Fetch cpu) _ h n tt (append-nil _ ∙ sym (ap (moved_line 0 cpu) e))
-      by (O.Switched p q j) e n k = one_event x (E.Fetch cpu) _ h n tt (append-nil _ ∙ sym (ap (moved_line 0 cpu) e))
-      by (O.Parked p j) e n k = one_event x (E.Fetch cpu) _ h n tt (append-nil _ ∙ sym (ap (moved_line 0 cpu) e))
+      by (O.Switched p q j) e n k = one_event x (E.Fetch cpu) _ h n tt (append-nil _ ∙ sym (rw e))
+      by (O.Parked p j) e n k = one_event x (E.Fetch cpu) _ h n tt (append-nil _ ∙ sym (rw e))
       by O.Idle e n k = one_event x (E.Fetch cpu) _ h n tt (append-nil _ ∙ sym (ap (moved_line 0 cpu) e))

@@ -50,7 +50,7 @@ module _ (own : List ℕ) (look : ℕ → ℕ → ℕ → ℕ) (g : Menu) (cpu :
   still w e r m =
       let a = alike_back own look (world_of w e) w (unseen_is_unseen own look w e m) in
       by a (runs_on (world_of w e) cpu) refl
-      (subst (λ o. AlikeOn own o (runs_on (world_of w e) cpu)) r.there (runs_alike own look w (world_of w e) cpu a))
+      (rw (← r.there) (runs_alike own look w (world_of w e) cpu a))
     where
       by : Alike own look w (world_of w e) → (o : Option Occupant) → runs_on (world_of w e) cpu ≡ o
           → AlikeOn own (Some r.runner) o → Runs (world_of w e)
@@ -58,9 +58,8 @@ module _ (own : List ℕ) (look : ℕ → ℕ → ℕ → ℕ) (g : Menu) (cpu :
       by a (Some q) k b = record {
         runner = q;
         there = k;
-        own_is = subst (λ n. In n own) b.0 r.own_is;
-        confined = subst (λ n. IsConfined (world_of w e).tree n) b.0
-            (confined_alike look w.tree (world_of w e).tree r.runner.name a.tree r.confined);
+        own_is = rw (← b.0) r.own_is;
+        confined = rw (← b.0) (confined_alike look w.tree (world_of w e).tree r.runner.name a.tree r.confined);
       }
 
   -- an event stays inside, or is on the menu
@@ -72,11 +71,11 @@ module _ (own : List ℕ) (look : ℕ → ℕ → ℕ → ℕ) (g : Menu) (cpu :
   ]
 
   set_unseen : (w : World) (c : Ctx) → Runs w → IsUnseen own look w (E.SetContext cpu c)
-  set_unseen w c r = subst (λ o. ByOneOf own o (λ q. Unit {0})) (sym r.there) (r.own_is, tt)
+  set_unseen w c r = rw r.there (r.own_is, tt)
 
   -- where an event is on the menu it gives no word
   gave_none : (w : World) (e : Event) (u : ℕ) → outcome_of w e ≡ O.Word u → IsOnMenu own look g w cpu e → ⊥
-  gave_none w e u q m = subst IsNoWord q m.word
+  gave_none w e u q m = rw q at m.word
 
   load_rest : (w : World) (e : Event) (c : Ctx) (a : ℕ) (o : Outcome) → outcome_of w e ≡ o → Runs w
       → IsUnseen own look w e ⊎ IsOnMenu own look g w cpu e
@@ -110,8 +109,7 @@ module _ (own : List ℕ) (look : ℕ → ℕ → ℕ → ℕ) (g : Menu) (cpu :
   }
     where
       is : what_happens w (E.Store cpu va z n) ≡ wrote w cpu r.runner va z n (Place g i)
-      is = ap (λ o. on_running w cpu o (λ r. wrote w cpu r va z n (reach w.tree r.name va Store z))) r.there
-          ∙ ap (wrote w cpu r.runner va z n) e
+      is = rw (r.there, e)
 
       words : (h : ℕ) (b : Bool) → is_some (w.tree.words h) ≡ true → is_some (cond b (Some (λ j. cond (j == i)
           (written_over va z n (word_of (w.tree.words g) i)) (word_of (w.tree.words g) j))) (w.tree.words h)) ≡ true

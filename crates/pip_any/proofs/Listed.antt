@@ -61,8 +61,8 @@ happened_alike : (own : List ℕ) (look : ℕ → ℕ → ℕ → ℕ) (w : Worl
 happened_alike own look w e f q =
     let a = alike_same own look (event w f).world in
     record {
-      tree = subst (λ h. AlikeTrees look h.world.tree (event w f).world.tree) (sym q) a.tree;
-      cpus = subst (λ h. AlikeCpus own h.world.cpus (event w f).world.cpus) (sym q) a.cpus;
+      tree = rw q a.tree;
+      cpus = rw q a.cpus;
     }
 
 module _ (own : List ℕ) (look : ℕ → ℕ → ℕ → ℕ) where
@@ -76,9 +76,9 @@ module _ (own : List ℕ) (look : ℕ → ℕ → ℕ → ℕ) where
     may = h.may;
     at = h.at;
     its = h.its;
-    stands = subst (λ x. StandsForEvent x e) (sym h.deed) s;
-    outcome = o ∙ ap (λ x. (event w (deed_event cpu x)).outcome) (sym h.deed);
-    alike = subst (λ x. Alike own look (event w e).world (event w (deed_event cpu x)).world) (sym h.deed) a;
+    stands = rw h.deed s;
+    outcome = rw (o, ← h.deed);
+    alike = rw h.deed a;
     word = n;
   }
 
@@ -86,7 +86,7 @@ module _ (own : List ℕ) (look : ℕ → ℕ → ℕ → ℕ) where
   listed : (g : Menu) (w : World) (cpu : ℕ) (e : Event) (d : Deed) → HasDeed g w cpu d → StandsForEvent d e
       → what_happens w e ≡ what_happens w (deed_event cpu d) → IsNoWord (event w e).outcome
       → IsOnMenu own look g w cpu e
-  listed g w cpu e d h s q n = on_menu g w cpu e d h s (ap (λ h. h.outcome) q)
+  listed g w cpu e d h s q n = on_menu g w cpu e d h s (rw q)
       (happened_alike own look w e (deed_event cpu d) q) n
 
   -- an event that does what a trap does is on the menu where the trap is
@@ -99,9 +99,9 @@ module _ (own : List ℕ) (look : ℕ → ℕ → ℕ → ℕ) where
     at = m.at;
     its = m.its;
     stands = f m.may.deed m.stands;
-    outcome = ap (λ h. h.outcome) q ∙ m.outcome;
+    outcome = rw (q, m.outcome);
     alike = alike_on own look _ _ _ (happened_alike own look w e (E.Trap cpu k a b) q) m.alike;
-    word = subst (λ h. IsNoWord h.outcome) (sym q) m.word;
+    word = rw q m.word;
   }
 
 pub traps_are_on_menu : TrapsAreOnMenu
@@ -206,8 +206,7 @@ yields_read_three w cpu n a b y e f g = go (call_named n) y
         ∙ sym (ap (λ x. on_running w cpu (runs_on w cpu) (λ r. call x w cpu r b)) q)
 
 pub masks_read_none : MasksReadNone
-masks_read_none w cpu n a b m y = ap (λ x. on_running w cpu (runs_on w cpu) (λ r. call x w cpu r a)) y
-    ∙ sym (ap (λ x. on_running w cpu (runs_on w cpu) (λ r. call x w cpu r b)) y)
+masks_read_none w cpu n a b m y = cc
 
 -- a yield that isn't refused isn't refused either if it saves nothing
 saves_nothing : (w : World) (p : ℕ) (a b : Five) (q : Option Node) → b.x0 ≡ a.x0 → b.x1 ≡ a.x1 → b.x2 ≡ 256
@@ -258,11 +257,8 @@ module _ (own : List ℕ) (look : ℕ → ℕ → ℕ → ℕ) (w : World) (cpu 
     word = tt;
   }
   entered a b q (Some c) e f l = record {
-    outcome = ap (O.Switched r.name q) (sym e);
-    tree = subst (λ n. AlikeTrees look (yielded_tree w.tree r a.x2) (yielded_tree w.tree r n)) (sym f) (record {
-      nodes = refl;
-      words = λ g. word g (w.tree.words g);
-    });
+    outcome = rw (← e);
+    tree = rw f (record { nodes = refl; words = λ g. word g (w.tree.words g) });
     cpus = cpus_alike_same own _;
     word = tt;
   }
@@ -284,31 +280,28 @@ module _ (own : List ℕ) (look : ℕ → ℕ → ℕ → ℕ) (w : World) (cpu 
       let c = handler w.tree (node_name q) a.x1 in
       let n = saves_nothing w r.name a b q e f g h in
       let one : yield w cpu r a ≡ yield_happens w cpu r a (node_name q) c =
-      ap (λ o. reply_unless w cpu r o (yield_happens w cpu r a (node_name q) c)) h in
-      let to : yield w cpu r b ≡ yield_to w cpu r b q = ap (λ d. yield_to w cpu r b (target_node w.tree r.name d)) e in
+      rw h in
+      let to : yield w cpu r b ≡ yield_to w cpu r b q = cc in
       let two : yield_to w cpu r b q ≡ yield_happens w cpu r b (node_name q) (handler w.tree (node_name q) b.x1) =
-      ap (λ o. reply_unless w cpu r o (yield_happens w cpu r b (node_name q) (handler w.tree (node_name q) b.x1))) n in
+      rw n in
       let last : yield_happens w cpu r b (node_name q) (handler w.tree (node_name q) b.x1)
       ≡ yield_happens w cpu r b (node_name q) c =
-      ap (λ d. yield_happens w cpu r b (node_name q) (handler w.tree (node_name q) d)) f in
-      subst (λ x. Same x (yield w cpu r b)) (sym one)
-      (subst (Same (yield_happens w cpu r a (node_name q) c)) (sym (to ∙ two ∙ last)) (entered a b (node_name q)
-      c f g l))
+      rw f in
+      rw one (subst (Same (yield_happens w cpu r a (node_name q) c)) (sym (to ∙ two ∙ last))
+      (entered a b (node_name q) c f g l))
 
 pub yields_are_on_menu : YieldsAreOnMenu
 yields_are_on_menu own look g w cpu n a r y k e l h =
     let s = same in
     on_menu own look g w cpu (E.Call cpu n a) (D.Call n (a.x0 ∷ a.x1 ∷ 256 ∷ 0 ∷ 0 ∷ []))
-    h refl s.outcome (record { tree = s.tree; cpus = s.cpus })
+    h refl s.outcome (assumption)
     s.word
   where
     by : (b : Five) → what_happens w (E.Call cpu n b) ≡ yield w cpu r b
-    by b = ap (λ o. on_running w cpu o (λ r. call (call_named n) w cpu r b)) k ∙ ap (λ c. call c w cpu r b) y
+    by b = rw (k, y)
 
     same : Same own look w cpu r (what_happens w (E.Call cpu n a))
         (what_happens w (E.Call cpu n (five_of (a.x0 ∷ a.x1 ∷ 256 ∷ 0 ∷ 0 ∷ []))))
-    same = subst (λ x. Same own look w cpu r x (what_happens w (E.Call cpu n (five_of (a.x0 ∷ a.x1 ∷ 256 ∷ 0 ∷ 0
-        ∷ [])))))
-        (sym (by a)) (subst (Same own look w cpu r (yield w cpu r a))
+    same = rw (by a) (subst (Same own look w cpu r (yield w cpu r a))
         (sym (by (five_of (a.x0 ∷ a.x1 ∷ 256 ∷ 0 ∷ 0 ∷ []))))
         (yielded own look w cpu r a (five_of (a.x0 ∷ a.x1 ∷ 256 ∷ 0 ∷ 0 ∷ [])) refl refl refl e l))

@@ -62,22 +62,20 @@ module _ (own : List ℕ) (look : ℕ → ℕ → ℕ → ℕ) (first : Memory) 
       let here : Moment = at h.choices in
       let above : g.scope.cpus ≤ c = omega arith in
       let there : c - g.scope.cpus ≡ s.place = omega arith in
-      let now : g.scope.from ≤ here.turns = omega (arith, time, h.late) in
-      let pick : picked g here.world c ≡ Usual = goes_is g here.world c (omega (arith, s.within))
-      (ap (λ b. b && is_hostile here.world.tree.root.name (name_on here.world c) g.may) (le-ltb c g.scope.cpus above))
+      let now : g.scope.from ≤ here.turns = omega arith in
+      let pick : picked g here.world c ≡ Usual = goes_is g here.world c (omega arith)
+      (rw (le-ltb c g.scope.cpus above))
       in
-      let acts : pick_acts g here c (picked g here.world c) ≡ Makes (E.Raise j) ∷ [] = ap (pick_acts g here c) pick
-      ∙ (raise_chosen g.scope here c above now
-      ∙ ap (λ l. Makes (E.Raise l) ∷ []) (ap (slice_index g.scope.lines) there ∙ s.is)) in
+      let acts : pick_acts g here c (picked g here.world c) ≡ Makes (E.Raise j) ∷ [] = rw
+      (pick, raise_chosen g.scope here c above now, there, s.is) in
       let turns : pick_turns g here c (picked g here.world c) ≡ here.turns =
-      ap (pick_turns g here c) pick ∙ same_turns g.scope here c above in
+      rw (pick, same_turns g.scope here c above) in
       record {
         choices = c ∷ h.choices;
-        can = (omega (arith, s.within), h.can);
+        can = (omega arith, h.can);
         since = h.since;
-        late = subst (λ n. min (t - t0) g.scope.from ≤ n) (sym turns) h.late;
-        alike = subst (λ es. Alike own look (world_of w (E.Raise j)) (after_acts here.world es)) (sym acts)
-            (raised_alike own look w here.world j h.alike);
+        late = rw turns h.late;
+        alike = rw acts (raised_alike own look w here.world j h.alike);
       }
 
   -- the lines that are due are raised
@@ -99,7 +97,7 @@ module _ (own : List ℕ) (look : ℕ → ℕ → ℕ → ℕ) (first : Memory) 
       (keeps : (w : World) (c : ℕ) (cs : List ℕ) → AreChoices (menu_model first g) cs → Alike own look w (at cs).world
       → K w c → RunsHostile g w c → TurnKeepsToMenu own look g w c) where
     covered : (k : ℕ) → IsCovered end k
-    covered k = subst (λ d. IsCovered d k) (sym closed) tt
+    covered k = rw closed tt
 
     -- a processor has its turn
     turned : (w : World) (t c : ℕ) → c < g.scope.cpus
@@ -114,23 +112,22 @@ module _ (own : List ℕ) (look : ℕ → ℕ → ℕ → ℕ) (first : Memory) 
         (away h.choices c h.can lt)
         (λ r. keeps w c h.choices h.can h.alike k ((λ i. is_hostile (root i) (name i) g.may) ∙ r)) in
         let same : after_acts w (turn w c 0) ≡ after_acts w (turn w c t) =
-        after-events w (turn w c 0)
-        ∙ (ap (after w) (sym (turn_events w c t)) ∙ sym (after-events w (turn w c t))) in (
+        rw (after-events w (turn w c 0), ← turn_events w c t, ← after-events w (turn w c t)) in (
           record {
             choices = x.choice ∷ h.choices;
             can = (x.can, h.can);
-            since = omega (arith, h.since);
+            since = omega arith;
             late = elim x.counts [
-              | inl all ↦ omega (arith, all)
-              | inr more ↦ omega (arith, more, h.late, h.since)
+              | inl all ↦ omega arith
+              | inr more ↦ omega arith
             ];
-            alike = subst (λ u. Alike own look u (at (x.choice ∷ h.choices)).world) same x.alike;
+            alike = rw (← same) x.alike;
           },
           λ some. elim x.same [
             | inl shows ↦
                 let n = told.all (text_of (turn w c 0)) (x.choice ∷ h.choices) ((x.can, h.can), sym shows) some
                 (covered (length (x.choice ∷ h.choices))) in
-                inl (record { place = n.place; witness = n.witness; at = n.at; same = n.same })
+                inl (search)
             | inr stays ↦ inr stays
           ],
         )
@@ -152,10 +149,9 @@ module _ (own : List ℕ) (look : ℕ → ℕ → ℕ → ℕ) (first : Memory) 
         let others : List Act = steps (after_acts w st) ps seed g.scope.cpus n (t + 1) in
         record {
           rest = text_of others;
-          whole = text-append st others ∙ ap (λ v. v ++ text_of others)
-              (text-append rs acts ∙ ap (λ v. v ++ text_of acts) (text-raises ps t));
+          whole = rw (text-append st others, text-append rs acts, text-raises ps t);
           known = one.1;
-          goes_on = on ps seed n (t + 1) (after_acts w st) some are ks.1 (subst (λ v. IsLike v (t + 1)) there one.0);
+          goes_on = on ps seed n (t + 1) (after_acts w st) some are ks.1 (rw (← there) one.0);
         }
 
 pub programs_are_named : ProgramsAreNamed
@@ -179,9 +175,9 @@ confined_keeps own look g w v c a f x h = by (runs_on w c) refl
 
     by : (o : Option Occupant) → runs_on w c ≡ o → TurnKeepsToMenu own look g w c
     by None k = absurd (nobody_hostile w.tree.root.name g.may
-        (sym (ap (λ o. is_hostile w.tree.root.name (option_map (λ r. r.name) o) g.may) k) ∙ h))
+        (cc))
     by (Some r) k =
-        let named : name_on v c ≡ Some r.name = sym (name_alike own look w v c a) ∙ ap (option_map (λ r. r.name)) k in
+        let named : name_on v c ≡ Some r.name = rw (← name_alike own look w v c a, k) in
         let (i, confined) = f r.name named hostile in
         confined_keeps_to_menu own look g w c r k i
         (confined_alike look v.tree w.tree r.name (alike_back own look w v a).tree confined) (x h)

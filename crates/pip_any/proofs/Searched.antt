@@ -51,7 +51,7 @@ any_program_is_named own look menu states from depth most start i j v s closed c
     cpus exits))
 
 begins : (i : Image) (start : Start) → start.count ≡ 0 → begun_world i start ≡ image_world i
-begins i start e = ap (λ n. after_acts (image_world i) (steps (image_world i) i.plans start.seed i.cpus n 0)) e
+begins i start e = rw e
 
 pub any_program_from_start : AnyProgramFromStart
 any_program_from_start own look menu states from depth most start i j v s closed none cpus frames words away confines
@@ -72,19 +72,19 @@ module _ (menu : MenuSaid) (states from depth : ℕ) (most : Option ℕ) (start 
 
   stands : (cs : List ℕ) → AreChoices (menu_model s.first g) cs
       → IsAmong (menu_model s.first g) s.told.keys (after_choices (menu_model s.first g) (begun_moment i start) cs)
-  stands cs can = s.told.counted.all cs can (subst (λ d. IsCovered d (length cs)) (sym closed) tt)
+  stands cs can = s.told.counted.all cs can (rw closed tt)
 
   -- what runs somewhere does so on one of the processors
   there : (cs : List ℕ) (c p : ℕ) → AreChoices (menu_model s.first g) cs → name_on (at cs) c ≡ Some p → c < i.cpus
   there cs c p can named =
       let count = (stands cs can).stands.cpus in
-      let less : c < length (at cs).cpus = within (at cs).cpus c p named in omega (arith, count, less)
+      let less : c < length (at cs).cpus = within (at cs).cpus c p named in omega arith
     where
       within : (os : List (Option Occupant)) (c p : ℕ)
           → option_map (λ r. r.name) (unwrap_or (slice_get os c) None) ≡ Some p → c < length os
       within [] c p e = cc
       within (o ∷ os) zero p e = omega arith
-      within (o ∷ os) (suc c) p e = let less = within os c p e in omega (arith, less)
+      within (o ∷ os) (suc c) p e = omega (arith, within os c p e)
 
   sound : (cs : List ℕ) → AreChoices (menu_model s.first g) cs → IsSoundWorld (at cs)
   sound cs can = (stands cs can).stands.stands.sound
@@ -135,9 +135,9 @@ away_texts_name_programs menu states from most start i j text s out ends cpus a 
     let g = image_menu i from menu.may in
     let m = begun_moment i start in
     let (said, (is, holds)) = s.looks.asked out in
-    let yes : Some said ≡ Some Yes = sym is ∙ ends_away menu states from most start i text s out ends in
+    let yes : Some said ≡ Some Yes = cc (ends_away menu states from most start i text s out ends) in
     let same : said ≡ Yes = cc in
-    let h : IsAwaySaid s.first menu.out g m s.verdict Yes = subst (IsAwaySaid s.first menu.out g m s.verdict) same holds
+    let h : IsAwaySaid s.first menu.out g m s.verdict Yes = rw (← same) holds
     in
     let (depth, closed) = closed_away s.first menu.out g m s.verdict h in
     tested_names_any_program menu.out.own (is_left_out menu.out) menu states from depth most start i j

@@ -39,8 +39,7 @@ module _ (own : List ℕ) (look : ℕ → ℕ → ℕ → ℕ) (s : Sight) (is :
     answers (D.Load va z) e r k = (
       r,
       k,
-      by (reach w.tree r.name va Load z) (subst (λ o. S.if_runs o (λ r. is_reached (reach w.tree r.name va Load z))
-          ≡ true) k e),
+      by (reach w.tree r.name va Load z) (rw k at e),
     )
       where
         by : (q : Reached) → is_reached q ≡ true → Answers q
@@ -61,9 +60,8 @@ module _ (own : List ℕ) (look : ℕ → ℕ → ℕ → ℕ) (s : Sight) (is :
         elim (one _ _ h.0) [
           | inl y ↦ absurd (not_both _ (off _ y) (ap (is_its w.tree.root.name (name_on w cpu)) q ∙ its))
           | inr y ↦ elim (one _ _ y) [
-            | inl z ↦ absurd (n (subst (λ m. DeedAnswers w cpu m.deed) q (answers x.deed z r k)))
-            | inr z ↦ subst (λ m. ReadsOutside own look w (deed_event cpu m.deed)) q
-                (reads own look s is w (deed_event cpu x.deed) z)
+            | inl z ↦ absurd (n (rw (← q) (answers x.deed z r k)))
+            | inr z ↦ rw (← q) (reads own look s is w (deed_event cpu x.deed) z)
           ]
         ]
     deeds (x ∷ ds) e r k (suc place) d at its n = let h = both _ _ e in deeds ds h.1 r k place d at its n
@@ -80,11 +78,11 @@ module _ (own : List ℕ) (look : ℕ → ℕ → ℕ → ℕ) (s : Sight) (is :
     where
       by : (o : Option Occupant) → runs_on w cpu ≡ o → P.HasPassed own look g w cpu
       by None k = absurd (nobody_hostile w.tree.root.name g.may
-          (sym (ap (λ o. is_hostile w.tree.root.name (option_map (λ r. r.name) o) g.may) k) ∙ q))
+          (sym (rw k) ∙ q))
       by (Some r) k =
           let a = both _ _ e in
           let b = both _ _ a.1 in
-          let c = confined own w cpu r sound k (subst (λ o. S.if_runs o (S.has_no_child own w.tree) ≡ true) k b.1) in
+          let c = confined own w cpu r sound k (rw k at b.1) in
           record {
             away = record {
               turn = λ f. absurd (not_both _ f q);
@@ -95,9 +93,9 @@ module _ (own : List ℕ) (look : ℕ → ℕ → ℕ → ℕ) (s : Sight) (is :
               ];
             };
             confined = λ p named h.
-                let n : ◌≡◌ {A = Option ℕ} (Some r.name) (Some p) = sym (ap (option_map (λ r. r.name)) k) ∙ named in
+                let n : ◌≡◌ {A = Option ℕ} (Some r.name) (Some p) = cc in
                 let d : r.name ≡ p = cc in
-                (subst (λ n. In n own) d c.0, subst (IsConfined w.tree) d c.1);
+                (rw (← d) c.0, rw (← d) c.1);
           }
 
   outside_passes : hostile ≡ false → S.events_pass own s w (events_made (turn w cpu 0)) ≡ true
@@ -124,15 +122,13 @@ states_pass own look s g w cpu is sound e = by (hostile own look s is g w cpu so
 deeds_same : (own : List ℕ) (blind : ℕ → ℕ → Bool) (w : World) (cpu : ℕ) (ds : List May)
     → P.deeds_pass own (T.but blind) w cpu ds ≡ H.deeds_read_outside own blind w cpu ds
 deeds_same own blind w cpu [] = refl
-deeds_same own blind w cpu (d ∷ ds) = ap (λ b. (not (is_its w.tree.root.name (name_on w cpu) d)
-    || (H.deed_answers w cpu d.deed || T.reads_outside own blind w (deed_event cpu d.deed))) && b)
-    (deeds_same own blind w cpu ds)
+deeds_same own blind w cpu (d ∷ ds) = rw (deeds_same own blind w cpu ds)
 
 pub tests_pass : TestsPass
 tests_pass own blind g w cpu sound e =
     let p = states_pass own (seen_but blind) (T.but blind) g w cpu (is_but own blind) sound
     (by (is_hostile w.tree.root.name (name_on w cpu) g.may) e) in
-    record { away = p.away; confined = p.confined }
+    assumption
   where
     all : (a b c : Bool) → a ≡ true → b ≡ true → c ≡ true → (a && (b && c)) ≡ true
     all a b c d e f = rw (d, e, f)
@@ -145,5 +141,4 @@ tests_pass own blind g w cpu sound e =
     by true e =
         let a = both _ _ e in
         let b = both _ _ a.1 in
-        all _ _ _ a.0 (ap (λ x. not (H.is_vain (event w (E.Poll cpu)).outcome) || x)
-        (deeds_same own blind w cpu g.may) ∙ b.0) (has_none_too own w.tree (runs_on w cpu) b.1)
+        all _ _ _ a.0 (rw (deeds_same own blind w cpu g.may, b.0)) (has_none_too own w.tree (runs_on w cpu) b.1)

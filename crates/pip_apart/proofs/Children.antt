@@ -37,16 +37,14 @@ pub root_chain : (t : Tree) → IsSound t → chain t t.root.name ≡ t.root ∷
 root_chain t s = go t.others s.parents_come_first
   where
     go : (xs : List Node) → IsRooted t.root xs → chain_in t.root xs t.root.name ≡ t.root ∷ []
-    go [] r = ap (λ b. cond b (t.root ∷ []) []) (eq-eqb t.root.name t.root.name refl)
+    go [] r = rw (eq-eqb t.root.name t.root.name refl)
     go (y ∷ ys) r =
-        ap (λ b. cond b (y ∷ chain_in t.root ys y.up) (chain_in t.root ys t.root.name))
-        (ne_eqb y.name t.root.name (λ q. r.0 (inl q))) ∙ go ys r.2
+        rw (ne_eqb y.name t.root.name (λ q. r.0 (inl q)), go ys r.2)
 
 -- the root is no guest
 pub root_no_top : (t : Tree) → is_top t t.root ≡ false
 root_no_top t =
-    ap (λ b. (t.root.up == t.root.name) && not b) (eq-eqb t.root.name t.root.name refl)
-    ∙ second (t.root.up == t.root.name)
+    rw (eq-eqb t.root.name t.root.name refl, second (t.root.up == t.root.name))
   where
     second : (b : Bool) → (b && false) ≡ false
     second true = refl
@@ -55,24 +53,21 @@ root_no_top t =
 -- and has none above it
 pub root_top : (t : Tree) → IsSound t → top_of t t.root.name ≡ None
 root_top t s =
-    ap (λ xs. option_map (λ x. x.name) (find (is_top t) xs)) (root_chain t s)
-    ∙ ap (λ b. option_map (λ x. x.name) (cond b (Some t.root) None)) (root_no_top t)
+    rw (root_chain t s, root_no_top t)
 
 -- a child of the root is its own
 pub child_top : (t : Tree) → IsSound t → (x : Node) → In x t.others → x.up ≡ t.root.name → top_of t x.name ≡ Some x.name
 child_top t s x i e =
     let is : is_top t x ≡ true = and_both (x.up == t.root.name) _ (eq-eqb x.up t.root.name e)
-    (ap not (ne_eqb x.name t.root.name (λ q. not_root t s x i (sym q)))) in
-    ap (λ xs. option_map (λ y. y.name) (find (is_top t) xs)) (chain-node t s x i)
-    ∙ ap (λ b. option_map (λ y. y.name) (cond b (Some x) (find (is_top t) (chain t x.up)))) is
+    (rw (ne_eqb x.name t.root.name (λ q. not_root t s x i (sym q)))) in
+    rw (chain-node t s x i, is)
 
 -- and another partition has that of its parent
 pub other_top : (t : Tree) → IsSound t → (x : Node) → In x t.others → x.up ≢ t.root.name
     → top_of t x.name ≡ top_of t x.up
 other_top t s x i n =
-    let is : is_top t x ≡ false = ap (λ b. b && not (x.name == t.root.name)) (ne_eqb x.up t.root.name n) in
-    ap (λ xs. option_map (λ y. y.name) (find (is_top t) xs)) (chain-node t s x i)
-    ∙ ap (λ b. option_map (λ y. y.name) (cond b (Some x) (find (is_top t) (chain t x.up)))) is
+    let is : is_top t x ≡ false = rw (ne_eqb x.up t.root.name n) in
+    rw (chain-node t s x i, is)
 
 -- ---- what a guest is
 
@@ -99,11 +94,11 @@ top_is t p q e = go (find (is_top t) (chain t p)) refl e
           others = other (chain_members t.root t.others p x f.0) differs;
           name = name;
           up = eqb-true x.up t.root.name b.0;
-          above = subst (λ n. In n (ancestry t p)) name (In-map (λ z. z.name) x (chain t p) f.0);
+          above = rw (← name) (In-map (λ z. z.name) x (chain t p) f.0);
         }
       where
         other : In x (t.root ∷ t.others) → x.name ≢ t.root.name → In x t.others
-        other (inl same) n = absurd (n (ap (λ z. z.name) same))
+        other (inl same) n = absurd (n (rw same))
         other (inr i) n = i
 
 -- every partition but the root has one
@@ -117,8 +112,7 @@ some_top t s a i n =
     step : (b : ℕ) (y : Node) → find_other t b ≡ Some y
         → (y.up ≡ t.root.name) ⊎ ((q : ℕ) × (top_of t y.up ≡ Some q))
         → (b ≡ t.root.name) ⊎ ((q : ℕ) × (top_of t b ≡ Some q))
-    step b y e o = inr (subst (λ k. (q : ℕ) × (top_of t k ≡ Some q)) (other_name t b y e) (go
-        (y.up == t.root.name) refl o))
+    step b y e o = inr (rw (← other_name t b y e) (go (y.up == t.root.name) refl o))
       where
         j : In y t.others
         j = other_in t b y e
@@ -126,20 +120,23 @@ some_top t s a i n =
         go : (c : Bool) → (y.up == t.root.name) ≡ c → (y.up ≡ t.root.name) ⊎ ((q : ℕ) × (top_of t y.up ≡ Some q))
             → (q : ℕ) × (top_of t y.name ≡ Some q)
         go true z o = (y.name, child_top t s y j (eqb-true y.up t.root.name z))
-        go false z (inl e) = absurd (not_true (y.up == t.root.name) (ap not z) (eq-eqb y.up t.root.name e))
+        go false z (inl e) = absurd (not_true (y.up == t.root.name) (rw z) (eq-eqb y.up t.root.name e))
         go false z (inr (q, k)) =
-            (q, other_top t s y j (λ e. not_true (y.up == t.root.name) (ap not z) (eq-eqb y.up t.root.name e)) ∙ k)
+            (q, other_top t s y j (λ e. not_true (y.up == t.root.name) (rw z) (eq-eqb y.up t.root.name e)) ∙ k)
 
 -- above a child of the root are itself and the root
 pub top_line : (t : Tree) (p q n : ℕ) → IsSound t → IsTop t p q → In n (ancestry t q) → (n ≡ q) ⊎ (n ≡ t.root.name)
-top_line t p q n s h i = go (subst (In n) is i)
+top_line t p q n s h i = go (rw is at i)
   where
     is : ancestry t q ≡ q ∷ t.root.name ∷ []
     is =
-        ap (ancestry t) (sym h.name)
-        ∙ ap (map (λ z. z.name)) (chain-node t s h.node h.others)
-        ∙ ap (λ u. h.node.name ∷ ancestry t u) h.up
-        ∙ ap₂ (λ m xs. m ∷ map (λ z. z.name) xs) h.name (root_chain t s)
+        cc (
+          h.name,
+          chain-node t s h.node h.others,
+          h.up,
+          ap₂ (λ m xs. m ∷ map (λ z. z.name) xs) h.name
+              (root_chain t s),
+        )
 
     go : In n (q ∷ t.root.name ∷ []) → (n ≡ q) ⊎ (n ≡ t.root.name)
     go (inl e) = inl e
@@ -150,7 +147,7 @@ pub top_named : (t : Tree) (p q : ℕ) → IsTop t p q → In q (names_of (nodes
 top_named t p q h = subst (λ n. In n (names_of (nodes t))) h.name (name_in h.node (nodes t) (inr h.others))
 
 pub top_not_root : (t : Tree) (p q : ℕ) → IsSound t → IsTop t p q → q ≢ t.root.name
-top_not_root t p q s h e = not_root t s h.node h.others (sym e ∙ sym h.name)
+top_not_root t p q s h e = not_root t s h.node h.others (cc (h.name))
 
 -- two guests are aside
 pub tops_aside : (t : Tree) (a b p q : ℕ) → IsSound t → IsTop t a p → IsTop t b q → p ≢ q → IsAside t p q
@@ -188,7 +185,7 @@ added_from ps (Some p) q i = go (has ps p) i
     go true j = inl j
     go false j = elim (In-append_cases q ps (p ∷ []) j) [
       | inl k ↦ inl k
-      | inr (inl e) ↦ inr (ap (λ n. Some n) (sym e))
+      | inr (inl e) ↦ inr (rw (← e))
       | inr (inr k) ↦ absurd k
     ]
 
@@ -196,7 +193,7 @@ added_from ps (Some p) q i = go (has ps p) i
 pub there_already : (ps : List ℕ) (o : Option ℕ) (p : ℕ) (b : Bool) → o ≡ Some p → b ≡ has ps p → b ≡ true
     → ps ≡ with_top ps o
 there_already ps o p b is said on =
-    sym (ap (with_top ps) is ∙ ap (λ c. cond c ps (ps ++ p ∷ [])) (sym said ∙ on))
+    cc
 
 tops_from : (w : World) (n q : ℕ) → In q (tops_before w n) → (cpu : ℕ) × (top_at w cpu ≡ Some q)
 tops_from w zero q i = absurd i
@@ -204,7 +201,7 @@ tops_from w (suc n) q i = elim (added_from (tops_before w n) (top_at w n) q i)
     [ inl j ↦ tops_from w n q j | inr e ↦ (n, e) ]
 
 tops_has : (w : World) (n cpu q : ℕ) → cpu < n → top_at w cpu ≡ Some q → In q (tops_before w n)
-tops_has w zero cpu q l e = absurd (omega (arith, l))
+tops_has w zero cpu q l e = absurd (omega arith)
 tops_has w (suc n) cpu q l e = go (cpu == n) refl (λ k. tops_has w n cpu q k e)
   where
     go : (b : Bool) → (cpu == n) ≡ b → (cpu < n → In q (tops_before w n))
@@ -213,8 +210,8 @@ tops_has w (suc n) cpu q l e = go (cpu == n) refl (λ k. tops_has w n cpu q k e)
         subst (λ o. In q (with_top (tops_before w n) o)) (sym (ap (top_at w) (sym (eqb-true cpu n z)) ∙ e))
         (added (tops_before w n) q)
     go false z before =
-        let differ : cpu ≢ n = λ d. not_true (cpu == n) (ap not z) (eq-eqb cpu n d) in
-        before_added (tops_before w n) (top_at w n) q (before (omega (arith, l, differ)))
+        let differ : cpu ≢ n = λ d. not_true (cpu == n) (rw z) (eq-eqb cpu n d) in
+        before_added (tops_before w n) (top_at w n) q (before (omega arith))
 
 -- what runs on a processor on which there is a guest
 pub record Runs (w : World) (cpu q : ℕ) : Type 0 where
@@ -241,8 +238,8 @@ none_there w cpu l = go w.cpus cpu l
   where
     go : (os : List (Option Occupant)) (k : ℕ) → length os ≤ k → unwrap_or (slice_get os k) None ≡ None
     go [] k l = refl
-    go (o ∷ os) zero l = absurd (omega (arith, l))
-    go (o ∷ os) (suc k) l = go os k (omega (arith, l))
+    go (o ∷ os) zero l = absurd (omega arith)
+    go (o ∷ os) (suc k) l = go os k (omega arith)
 
 -- where a number is in a list
 record IsAt (xs : List ℕ) (x : ℕ) : Type 0 where
@@ -255,12 +252,12 @@ place_in x [] i = absurd i
 place_in x (y ∷ ys) (inl e) = record { place = 0; within = omega arith; is = sym e }
 place_in x (y ∷ ys) (inr i) =
     let s : IsAt ys x = place_in x ys i in
-    record { place = suc s.place; within = omega (arith, s.within); is = s.is }
+    record { place = suc s.place; within = omega arith; is = s.is }
 
 in_place : (xs : List ℕ) (k : ℕ) → k < length xs → In (slice_index xs k) xs
-in_place [] k l = absurd (omega (arith, l))
+in_place [] k l = absurd (omega arith)
 in_place (x ∷ xs) zero l = inl refl
-in_place (x ∷ xs) (suc k) l = inr (in_place xs k (omega (arith, l)))
+in_place (x ∷ xs) (suc k) l = inr (in_place xs k (omega arith))
 
 all_have : (f : ℕ → Bool) (n x : ℕ) → In x (all_before f n) → f x ≡ true
 all_have f zero x i = absurd i
@@ -270,22 +267,22 @@ all_have f (suc n) x i = go (f n) refl i (all_have f n x)
         → (In x (all_before f n) → f x ≡ true) → f x ≡ true
     go true e j before = elim (In-append_cases x (all_before f n) (n ∷ []) j) [
       | inl k ↦ before k
-      | inr (inl d) ↦ ap f d ∙ e
+      | inr (inl d) ↦ rw (d, e)
       | inr (inr k) ↦ absurd k
     ]
     go false e j before = before j
 
 all_has : (f : ℕ → Bool) (n x : ℕ) → x < n → f x ≡ true → In x (all_before f n)
-all_has f zero x l e = absurd (omega (arith, l))
+all_has f zero x l e = absurd (omega arith)
 all_has f (suc n) x l e = go (x == n) refl (f n) refl (λ k. all_has f n x k e)
   where
     less : (x == n) ≡ false → x < n
-    less z = let differ : x ≢ n = λ d. not_true (x == n) (ap not z) (eq-eqb x n d) in omega (arith, l, differ)
+    less z = let differ : x ≢ n = λ d. not_true (x == n) (rw z) (eq-eqb x n d) in omega arith
 
     go : (c : Bool) → (x == n) ≡ c → (b : Bool) → f n ≡ b → (x < n → In x (all_before f n))
         → In x (cond b (all_before f n ++ n ∷ []) (all_before f n))
     go true z true d before = In-append_right x (all_before f n) (n ∷ []) (inl (eqb-true x n z))
-    go true z false d before = absurd (not_true (f n) (ap not d) (ap f (sym (eqb-true x n z)) ∙ e))
+    go true z false d before = absurd (not_true (f n) (rw d) (rw (← eqb-true x n z, e)))
     go false z true d before = In-append_left x (all_before f n) (n ∷ []) (before (less z))
     go false z false d before = before (less z)
 
@@ -294,7 +291,7 @@ below_or_not : (a b : ℕ) → (a < b) ⊎ (b ≤ a)
 below_or_not a zero = inr (omega arith)
 below_or_not zero (suc b) = inl (omega arith)
 below_or_not (suc a) (suc b) =
-    elim (below_or_not a b) [ inl l ↦ inl (omega (arith, l)) | inr l ↦ inr (omega (arith, l)) ]
+    elim (below_or_not a b) [ inl l ↦ inl (omega arith) | inr l ↦ inr (omega arith) ]
 
 pub processors_are : (w : World) (p : ℕ) → IsSoundWorld w → AreProcessors w p (processors_of w p)
 processors_are w p s = record {
@@ -307,7 +304,7 @@ processors_are w p s = record {
     go : (cpu : ℕ) → runs_below w p cpu ≡ true → (cpu < length w.cpus) ⊎ (length w.cpus ≤ cpu) → cpu < length w.cpus
     go cpu e (inl l) = l
     go cpu e (inr l) =
-        absurd (not_true (runs_below w p cpu) (ap not (none_below w p cpu s (none_there w cpu l))) e)
+        absurd (not_true (runs_below w p cpu) (rw (none_below w p cpu s (none_there w cpu l))) e)
 
     there : (cpu : ℕ) → runs_below w p cpu ≡ true → cpu < length w.cpus
     there cpu e = go cpu e (below_or_not cpu (length w.cpus))
@@ -315,17 +312,17 @@ processors_are w p s = record {
 -- ---- the first of which something is so
 
 pub first_none : (f : ℕ → Bool) (n k : ℕ) → first_before f n ≡ None → k < n → f k ≡ false
-first_none f zero k e l = absurd (omega (arith, l))
+first_none f zero k e l = absurd (omega arith)
 first_none f (suc n) k e l = go (first_before f n) refl (f n) refl e (k == n) refl (first_none f n k)
   where
     go : (o : Option ℕ) → first_before f n ≡ o → (b : Bool) → f n ≡ b → first_some o (cond b (Some n) None) ≡ None
         → (c : Bool) → (k == n) ≡ c → (first_before f n ≡ None → k < n → f k ≡ false) → f k ≡ false
     go (Some x) d b h z c q before = cc
     go None d true h z c q before = cc
-    go None d false h z true q before = ap f (eqb-true k n q) ∙ h
+    go None d false h z true q before = rw (eqb-true k n q, h)
     go None d false h z false q before =
-        let differ : k ≢ n = λ y. not_true (k == n) (ap not q) (eq-eqb k n y) in
-        before d (omega (arith, l, differ))
+        let differ : k ≢ n = λ y. not_true (k == n) (rw q) (eq-eqb k n y) in
+        before d (omega arith)
 
 -- each processor runs a guest, or nothing, where the root runs on none
 pub of_guests : (w : World) (cpu : ℕ) → IsSoundWorld w → root_on w ≡ None
@@ -335,7 +332,7 @@ of_guests w cpu s none = go (runs_on w cpu) refl
     within : (r : Occupant) → runs_on w cpu ≡ Some r → (cpu < length w.cpus) ⊎ (length w.cpus ≤ cpu)
         → cpu < length w.cpus
     within r k (inl l) = l
-    within r k (inr l) = let bad : None ≡ Some r = sym (none_there w cpu l) ∙ k in cc
+    within r k (inr l) = let bad : None ≡ Some r = rw (← none_there w cpu l) k in cc
 
     go : (o : Option Occupant) → runs_on w cpu ≡ o
         → ((p : ℕ) × In p (tops w) × (runs_below w p cpu ≡ true)) ⊎ (runs_on w cpu ≡ None)
@@ -345,9 +342,9 @@ of_guests w cpu s none = go (runs_on w cpu) refl
         let off : names_root w.tree (runs_on w cpu) ≡ false =
         first_none (λ c. names_root w.tree (runs_on w c)) (length w.cpus) cpu none l in
         let differs : r.name ≢ w.tree.root.name = λ e. not_true (r.name == w.tree.root.name)
-        (ap not (sym (ap (names_root w.tree) k) ∙ off)) (eq-eqb r.name w.tree.root.name e) in
+        (cc) (eq-eqb r.name w.tree.root.name e) in
         let (q, is) = some_top w.tree s.tree r.name (s.names_nodes r.name (runs_named w cpu r s k)) differs in
-        let at : top_at w cpu ≡ Some q = ap (top_by w.tree) k ∙ is in
+        let at : top_at w cpu ≡ Some q = rw (k, is) in
         inl (
           q,
           tops_has w (length w.cpus) cpu q l at,

@@ -166,17 +166,16 @@ module _ (w0 : World) (ps : List ℕ) (B : ℕ → World → Type 0) (C : World 
         } in
         let n = both_after q p (events_made (fetch_acts w s.step s.cpu)) w w w b
         (fetch_are w s.cpu s.step c.sound) same.inside.inside in
-        subst (λ v. IsAside v.tree q p) (sym (after_turn w s.cpu s.step quiet)) n.aside
+        rw (after_turn w s.cpu s.step quiet) n.aside
 
     aside_there : (x y : ℕ) → In x ps → In y ps → x ≢ y → IsAside there.tree x y
     aside_there x y i k d = elim (eqb_tells x q) [
-      | inl e ↦ subst (λ n. IsAside there.tree n y) (sym e.1) (aside_of y k (λ f. d (e.1 ∙ sym f)))
+      | inl e ↦ rw e.1 (aside_of y k (λ f. d (e.1 ∙ sym f)))
       | inr e ↦ elim (eqb_tells y q) [
         | inl f ↦
             let b = aside_of x i e.1 in
             let name_x = (kept x i e.1).name in
-            subst (IsAside there.tree x) (sym f.1)
-            (record { there = name; not_below = b.not_above; not_above = b.not_below })
+            rw f.1 (record { there = name; not_below = b.not_above; not_above = b.not_below })
         | inr f ↦ aside_on w there x y c.sound sound (c.names x i) (c.aside x y i k d) (kept x i e.1).guest
             (kept y k f.1).guest
       ]
@@ -210,13 +209,13 @@ module _ (w0 : World) (ps : List ℕ) (B : ℕ → World → Type 0) (C : World 
         alone = λ p i. elim (eqb_tells p q) [
           | inl e ↦ (
             after_acts u (turn_of u s),
-            subst (λ n. Alone n (after_acts u (turn_of u s)) there) (sym e.1) alone_there,
+            rw e.1 alone_there,
           )
           | inr e ↦ let (v, b) = c.alone p i in
               (v, alone_on p v w there c.sound sound (c.names p i) b (kept p i e.1).guest)
         ];
         idle = λ cpu e. turn_elsewhere w q s.cpu s.step cpu c.sound (c.names q j) (c.not_root q j) quiet same.inside
-            (λ d. let k : None ≡ Some runs.0 = sym (c.idle cpu e) ∙ ap (runs_on w) d ∙ runs.1 in cc)
+            (λ d. let k : None ≡ Some runs.0 = rw (← c.idle cpu e, d, runs.1) in cc)
             ∙ c.idle cpu e;
       };
     }

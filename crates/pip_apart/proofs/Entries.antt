@@ -30,16 +30,16 @@ module _ (t : Tree) (s : IsSound t) (x : Node) (found : find_node t 1 ≡ Some x
   pub lent_row : (o : Option FullRow) (r : FullRow) (free : Bool) → o ≡ full_rows t x v → o ≡ Some r
       → free ≡ is_ungiven r → not free ≡ is_lent t (row_at t.root.rows v)
   lent_row o r free is some said =
-      let full : full_rows t x v ≡ Some r = sym is ∙ some in
+      let full : full_rows t x v ≡ Some r = cc in
       let (q, at, same) = full_back t x v r full in
       let root = root_is t s x found in
-      let here : row_at t.root.rows v ≡ Some q = ap (λ z. row_at z.rows v) (sym root) ∙ at in
+      let here : row_at t.root.rows v ≡ Some q = cc in
       let one : is_none (holder t t.root.name q.frame) ≡ is_none (holder t 1 q.frame) =
-      ap (λ n. is_none (holder t n q.frame)) (root_is_one t s) in
-      let row : row_at (node t 1).rows v ≡ Some q = ap (λ z. row_at z.rows v) (node_is t 1 x found) ∙ at in
+      cc (root_is_one t s) in
+      let row : row_at (node t 1).rows v ≡ Some q = rw (node_is t 1 x found, at) in
       let tells : is_none (holder t 1 q.frame) ≡ is_ungiven r =
-      sym (ap (is_free_row t 1) row) ∙ free-row t s 1 x found v r full in
-      ap not (said ∙ sym tells ∙ sym one) ∙ sym (ap (is_lent t) here)
+      cc (free-row t s 1 x found v r full) in
+      ap not (said ∙ sym tells ∙ sym one) ∙ sym (rw here)
 
   -- where there is no row, none has
   pub no_row : (o : Option FullRow) → o ≡ full_rows t x v → o ≡ None → false ≡ is_lent t (row_at t.root.rows v)
@@ -48,9 +48,9 @@ module _ (t : Tree) (s : IsSound t) (x : Node) (found : find_node t 1 ≡ Some x
       go : (q : Option Row) → row_at t.root.rows v ≡ q → false ≡ is_lent t q
       go None e = refl
       go (Some q) e =
-          let at : row_at x.rows v ≡ Some q = ap (λ z. row_at z.rows v) (root_is t s x found) ∙ e in
+          let at : row_at x.rows v ≡ Some q = rw (root_is t s x found, e) in
           let full : full_rows t x v ≡ full_row t x (Some q) = full-at t x v (Some q) at in
-          let bad : None ≡ full_row t x (Some q) = sym none ∙ is ∙ full in cc
+          let bad : None ≡ full_row t x (Some q) = cc in cc
 
 -- ---- the word
 
@@ -67,41 +67,33 @@ module _ (t : Tree) (s : IsSound t) (line va : ℕ) (is : va ≡ entry_at (32 + 
     (off : lent ≡ false) (said : lent ≡ is_lent t (row_at t.root.rows (vpage va))) (n : ℕ) (one : n ≡ 1)
     (o : Result ℕ AccessFault) (answer : o ≡ load_answer t va Word (reach t n va Load Word)) where
   none_lent : is_lent t (row_at t.root.rows (vpage (entry_at (32 + line)))) ≡ false
-  none_lent = ap (λ a. is_lent t (row_at t.root.rows (vpage a))) (sym is) ∙ sym said ∙ off
+  none_lent = rw (← is, ← said, off)
 
   of_entry : reach t n va Load Word ≡ reach t t.root.name (entry_at (32 + line)) Load Word
-  of_entry = ap (λ m. reach t m va Load Word) (one ∙ sym (root_is_one t s))
-      ∙ ap (λ a. reach t t.root.name a Load Word) is
+  of_entry = cc (root_is_one t s)
 
   pub word_tells : (w : ℕ) → o ≡ Ok w → not (w == 0) ≡ might_take t line
   word_tells w e =
-      sym (ap (λ b. cond b true (is_set (word_reached t (reach t t.root.name (entry_at
-      (32 + line)) Load Word)))) none_lent
-      ∙ ap is_set (ap (word_reached t) (sym of_entry)
-      ∙ loaded t (reach t n va Load Word) va w (sym e ∙ answer)))
+      sym (rw (none_lent, ← of_entry, loaded t (reach t n va Load Word) va w (sym e ∙ answer)))
 
   pub fault_tells : (f : AccessFault) → o ≡ Err f → false ≡ might_take t line
   fault_tells f e =
-      sym (ap (λ b. cond b true (is_set (word_reached t (reach t t.root.name (entry_at
-      (32 + line)) Load Word)))) none_lent
-      ∙ ap is_set (ap (word_reached t) (sym of_entry)
-      ∙ faulted t (reach t n va Load Word) va f (sym e ∙ answer)))
+      sym (rw (none_lent, ← of_entry, faulted t (reach t n va Load Word) va f (sym e ∙ answer)))
 
 -- ---- the first
 
 -- the first of fewer numbers is the first of more
 pub first_later : (f : ℕ → Bool) (n m k : ℕ) → first_before f n ≡ Some k → first_before f (n + m) ≡ Some k
-first_later f n zero k e = let z : n + zero ≡ n = omega arith in ap (first_before f) z ∙ e
+first_later f n zero k e = let z : n + zero ≡ n = omega arith in rw (z, e)
 first_later f n (suc m) k e =
     let one : n + suc m ≡ suc (n + m) = omega arith in
-    ap (first_before f) one
-    ∙ ap (λ o. first_some o (cond (f (n + m)) (Some (n + m)) None)) (first_later f n m k e)
+    rw (one, first_later f n m k e)
 
 -- one for which it is so, after those for which it isn't, is the first
 pub first_here : (f : ℕ → Bool) (n k : ℕ) (b : Bool) → first_before f k ≡ None → b ≡ f k → b ≡ true → k < n
     → Some k ≡ first_before f n
 first_here f n k b none is on l =
     let one : first_before f (suc k) ≡ Some k =
-    ap (λ o. first_some o (cond (f k) (Some k) None)) none ∙ ap (λ c. cond c (Some k) None) (sym is ∙ on) in
-    let rest : n ≡ suc k + (n - suc k) = omega (arith, l) in
-    sym (ap (first_before f) rest ∙ first_later f (suc k) (n - suc k) k one)
+    rw (none, ← is, on) in
+    let rest : n ≡ suc k + (n - suc k) = omega arith in
+    rw (← first_later f (suc k) (n - suc k) k one, ← rest)

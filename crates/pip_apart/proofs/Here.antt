@@ -87,6 +87,8 @@ list_elsewhere q cpu i (e ∷ es) w s m d all here k =
 pub turn_elsewhere : (w : World) (q cpu t i : ℕ) → IsSoundWorld w → IsName w.tree q → q ≢ w.tree.root.name
     → PollsInVain w cpu → IsInsideTurn q w cpu t → i ≢ cpu → runs_on (after_acts w (turn w cpu t)) i ≡ runs_on w i
 turn_elsewhere w q cpu t i s n m vain k d =
-    ap (λ v. runs_on v i) (after_turn w cpu t vain)
-    ∙ list_elsewhere q cpu i (events_made (fetch_acts w t cpu)) w s m d (fetch_are w cpu t s) (fetch_here cpu t w)
-    k.inside
+    rw (
+      after_turn w cpu t vain,
+      list_elsewhere q cpu i (events_made (fetch_acts w t cpu)) w s m d
+          (fetch_are w cpu t s) (fetch_here cpu t w) k.inside,
+    )

@@ -56,14 +56,13 @@ set_name : (w : World) (cpu : ℕ) (c : Ctx) → (o : Option Occupant) → runs_
 set_name w cpu c None k =
     let f : Occupant → Happened = λ r. done (with_running w cpu (Some (record r { ctx = c }))) in
     let none = ap (λ o. on_running w cpu o f) k in
-    (ap (λ h. occupant_name (runs_on h.world cpu)) none, ap (line cpu) none)
+    (rw none, rw none)
 set_name w cpu c (Some r) k =
     let q : Occupant = record r { ctx = c } in
     let set = set_by w r cpu c k in
     let here = at_set_here (Some q) w.cpus cpu r k in (
-      ap (λ h. occupant_name (runs_on h.world cpu)) set ∙ ap occupant_name here ∙ sym (ap occupant_name k),
-      ap (line cpu) set ∙ ap (λ o. ancestry w.tree (occupant_name o)) here
-          ∙ sym (ap (λ o. ancestry w.tree (occupant_name o)) k),
+      cc,
+      cc,
     )
 
 module _ (p : ℕ) where
@@ -75,11 +74,11 @@ module _ (p : ℕ) where
     | inl (inl i) ↦ i
     | inl (inr l) ↦
         let (r, k, q) = actor_runs w p e s l.below in
-        let h : In p (ancestry w.tree r.name) = subst (λ a. In p (ancestry w.tree a)) q l.below in
+        let h : In p (ancestry w.tree r.name) = rw (← q) l.below in
         let z = event_left w w p s s (same_world p w) m e r l.faults k h l.leaves in
         let v = (event w e).world in
         let (r', k', q') = actor_runs v p (E.Poll (cpu_of e)) (event-sound w e s ev) c in
-        absurd (z.off r' k' (subst (λ a. In p (ancestry v.tree a)) q' c))
+        absurd (z.off r' k' (rw (← q') c))
     | inr a ↦ absurd (asks a)
   ]
 
@@ -89,7 +88,7 @@ module _ (p : ℕ) where
     set_before w c b = subst (In p) (set_name w cpu c (runs_on w cpu) refl).1 b
 
     set_after : (w : World) (c : Ctx) → Below p w cpu → Below p (event w (E.SetContext cpu c)).world cpu
-    set_after w c b = subst (In p) (sym (set_name w cpu c (runs_on w cpu) refl).1) b
+    set_after w c b = rw (← sym (set_name w cpu c (runs_on w cpu) refl).1) b
 
     set_inside : (w : World) (c : Ctx) → IsSoundWorld w → IsEvent (E.SetContext cpu c) → p ≢ w.tree.root.name
         → Below p w cpu → IsInside p w (E.SetContext cpu c)
@@ -146,7 +145,7 @@ module _ (p : ℕ) where
             set_inside w c s ev m b,
             (
               inside_of u e su ev2 (not_top w.tree u.tree s.tree su.tree p m) o
-                  (subst (Below p u) (sym here) (set_after w c b)) (subst (Below p (event u e).world) (sym here) d)
+                  (rw here (set_after w c b)) (rw here d)
                   asks,
               tt,
             ),
@@ -179,10 +178,10 @@ module _ (p : ℕ) where
         → asks_by p (Some r) (O.Word u) ≡ false → AllStayInside p w (events_made (word_acts w t cpu u (Some r)))
     word_inside t u w r s m k b all c asks =
         effect_inside t w r.ctx s m b (word_effect r.ctx u (instr_of u)) all c
-        (λ n e y z1 z2. let name : r.name ≡ p = sym (ap occupant_name k) ∙ z1 in
+        (λ n e y z1 z2. let name : r.name ≡ p = cc in
         let yes = and_both (r.name == p && slice_index r.ctx.regs 1 == 0) (yields_by (word_effect r.ctx u (instr_of u)))
         (and_both (r.name == p) (slice_index r.ctx.regs 1 == 0) (eq-eqb r.name p name)
-        (eq-eqb (slice_index r.ctx.regs 1) 0 z2)) (ap yields_by e ∙ ap is_yield y) in
+        (eq-eqb (slice_index r.ctx.regs 1) 0 z2)) (rw (e, y)) in
         let no = sym yes ∙ asks in cc)
 
     fetch_inside : (w : World) (t : ℕ) → IsSoundWorld w → p ≢ w.tree.root.name → Below p w cpu
@@ -214,18 +213,18 @@ module _ (p : ℕ) where
         go (O.Word u) q a d =
             let (r, k, n) = actor_runs w p e s b in
             let stays = fetch_stays w cpu u r k q in
-            let k1 : runs_on there cpu ≡ Some r = ap (λ x. runs_on x cpu) stays ∙ k in
-            let h : In p (ancestry w.tree r.name) = subst (λ a. In p (ancestry w.tree a)) n b in
+            let k1 : runs_on there cpu ≡ Some r = cc in
+            let h : In p (ancestry w.tree r.name) = rw (← n) b in
             let h1 : In p (ancestry there.tree r.name) =
-            subst (λ x. In p (ancestry x.tree r.name)) (sym stays) h in
-            let b1 : Below p there cpu = subst (λ o. In p (ancestry there.tree (occupant_name o))) (sym k1) h1 in
+            simp stays h in
+            let b1 : Below p there cpu = rw k1 h1 in
             let sv = event-sound w e s tt in
             let no : asks_by p (Some r) (O.Word u) ≡ false =
-            sym (ap₂ (asks_by p) k q) ∙ asks in
+            rw (← ap₂ (asks_by p) k q) asks in
             let a1 = subst (λ o. AllByRecursion IsEvent (events_made (word_acts there t cpu u o))) k1 a in
             let d1 = subst (λ o. Below p (after there (events_made (word_acts there t cpu u o))) cpu) k1 d in
             let z = word_inside t u there r sv (not_top w.tree there.tree s.tree sv.tree p m) k1 b1 a1 d1 no in
-            (only b1, subst (λ o. AllStayInside p there (events_made (word_acts there t cpu u o))) (sym k1) z)
+            (only b1, rw k1 z)
 
 not_is : (b : Bool) → not b ≡ true → b ≡ false
 not_is true e = cc
@@ -251,7 +250,7 @@ module _ (p cpu t : ℕ) where
       → yields_by f ≡ true → AllStayInside p w (events_made (effect_acts w t cpu r.ctx f)) → ⊥
   effect_asks w r (F.Calls n) name zero_there y i =
       let c = at_next r.ctx in
-      i.1.0.asks (yields_to (call_named n) y, (set_name w cpu c (runs_on w cpu) refl).0 ∙ name, zero_there)
+      i.1.0.asks (yields_to (call_named n) y, cc ((set_name w cpu c (runs_on w cpu) refl).0), zero_there)
   effect_asks w r (F.Sets a v) name zero_there y i = cc
   effect_asks w r (F.Goes pc) name zero_there y i = cc
   effect_asks w r (F.Links a pc) name zero_there y i = cc
@@ -272,12 +271,12 @@ module _ (p cpu t : ℕ) where
   asks_not w (Some r) k O.Idle q i = refl
   asks_not w (Some r) k (O.Word u) q i = false_from_ne_true _ (λ z.
       let there = world_of w (E.Fetch cpu) in
-      let k1 : runs_on there cpu ≡ Some r = ap (λ x. runs_on x cpu) (fetch_stays w cpu u r k q) ∙ k in
+      let k1 : runs_on there cpu ≡ Some r = cc (fetch_stays w cpu u r k q) in
       let i1 = subst (λ o. AllStayInside p there (events_made (word_acts there t cpu u o))) k1 i in
       let f = word_effect r.ctx u (instr_of u) in
       let x = both (r.name == p && slice_index r.ctx.regs 1 == 0) (yields_by f) z in
       let y = both (r.name == p) (slice_index r.ctx.regs 1 == 0) x.0 in
-      effect_asks there r f (ap occupant_name k1 ∙ eqb-true r.name p y.0)
+      effect_asks there r f (rw (k1, eqb-true r.name p y.0))
       (eqb-true (slice_index r.ctx.regs 1) 0 y.1) x.1 i1)
 
 pub inside_turns_ask_not : InsideTurnsAskNot

@@ -48,12 +48,12 @@ searched_alone w first most limit g s f on =
       first = first;
       machine = length w.cpus;
       cpus = g.cpus;
-      processors = subst (AreProcessors w g.top) (sym f.cpus) (processors_are w g.top s);
+      processors = rw f.cpus (processors_are w g.top s);
       most = most;
       limit = limit;
       count = g.count;
       depth = depth;
-      told = subst (IsTold (guest_model first (length w.cpus) g.top g.cpus) w most limit g.lines g.count) e f.told;
+      told = rw (← e) f.told;
       none = none_marked g.lines (off (list_any (λ x. is_marked x.label) g.lines) b.1);
     }
   where
@@ -79,9 +79,9 @@ all_searched w first most limit (g ∷ gs) s all on p i =
     go : (b : Bool) → (g.top == p) ≡ b → In p (map (λ g. g.top) (g ∷ gs))
         → (In p (map (λ g. g.top) gs) → IsSearchedAlone w p (lines_of gs p))
         → IsSearchedAlone w p (cond b g.lines (lines_of gs p))
-    go true e j rest = subst (λ n. IsSearchedAlone w n g.lines) (eqb-true g.top p e)
-        (searched_alone w first most limit g s all.0 (both (stays g.end g.lines) _ on).0)
-    go false e (inl d) rest = absurd (not_true (g.top == p) (ap not e) (eq-eqb g.top p (sym d)))
+    go true e j rest = rw (← eqb-true g.top p e) (searched_alone w first most limit g s all.0
+        (both (stays g.end g.lines) _ on).0)
+    go false e (inl d) rest = absurd (not_true (g.top == p) (rw e) (eq-eqb g.top p (sym d)))
     go false e (inr j) rest = rest j
 
 -- what one of them showed is of the list
@@ -124,7 +124,7 @@ are_searched w most limit k is on =
           let (other, u) = tops_are w q j in
           tops_aside t r.occupant.name u.occupant.name p q s.tree r.is u.is n;
       searched = λ p i. all_searched w is.found.first most limit k.guests s is.found.each b.0 p
-          (subst (In p) (sym is.found.tops_are) i);
+          (rw is.found.tops_are i);
       lines = takes_no_line w (tops w) s (λ p i. let (cpu, r) = tops_are w p i in (r.occupant.name, r.is))
           (sym is.line_is ∙ is_nothing k.line c.1);
     }
@@ -159,12 +159,14 @@ one_more : (plans : List Plan) (w : World) (ss : List Slot) (s : Slot)
     → after_acts w (all_steps plans w (ss ++ s ∷ [])) ≡ next_world plans (after_acts w (all_steps plans w ss)) s
 one_more plans w [] s = after-append w (raises_turn plans w s) [] ∙ next plans w s
 one_more plans w (x ∷ ss) s =
-    after-append w (raises_turn plans w x) (all_steps plans (next_world plans w x) (ss ++ s ∷ []))
-    ∙ ap (λ v. after_acts v (all_steps plans (next_world plans w x) (ss ++ s ∷ []))) (next plans w x)
-    ∙ one_more plans (next_world plans w x) ss s
-    ∙ ap (λ v. next_world plans v s) (sym (after-append w (raises_turn plans w x)
-    (all_steps plans (next_world plans w x) ss)
-    ∙ ap (λ v. after_acts v (all_steps plans (next_world plans w x) ss)) (next plans w x)))
+    cc (
+      after-append w (raises_turn plans w x) (all_steps plans (next_world plans w x) (ss ++ s ∷ [])),
+      next plans w x,
+      one_more plans (next_world plans w x) ss s,
+      next plans w x,
+      after-append w (raises_turn plans w x)
+          (all_steps plans (next_world plans w x) ss),
+    )
 
 show_from : (w : World) (most limit : ℕ) (k : Known) (plans : List Plan) → IsKnownAt w most limit k
     → hold_apart k ≡ true → AllByRecursion (λ x. x.line < 16) plans → (before ss : List Slot)
@@ -172,8 +174,7 @@ show_from : (w : World) (most limit : ℕ) (k : Known) (plans : List Plan) → I
 show_from w most limit k plans is on below before [] = tt
 show_from w most limit k plans is on below before (x ∷ ss) = (
   known_lines_suffice w most limit k plans before x is on below,
-  subst (λ v. ShowOnly (IsLineOf k.guests) plans v ss) (one_more plans w before x)
-      (show_from w most limit k plans is on below (before ++ x ∷ []) ss),
+  rw (← one_more plans w before x) (show_from w most limit k plans is on below (before ++ x ∷ []) ss),
 )
 
 pub slots_show_known : SlotsShowKnown
@@ -210,9 +211,7 @@ runs_show_known w plans seed c m n most limit k is on below =
     let v = after_acts w (steps w plans seed c m 0) in
     let at : 0 + m ≡ m = omega arith in
     record {
-      acts = runs_go_on w plans seed c m n 0
-          ∙ ap (λ acts. steps w plans seed c m 0 ++ acts)
-          (ap (steps v plans seed c n) at ∙ runs_are_steps v plans seed c n m);
+      acts = rw (runs_go_on w plans seed c m n 0, at, runs_are_steps v plans seed c n m);
       show = slots_show_known v most limit k plans (run_slots seed c n m) is on below;
       alone = λ p i. known_guests_hold v most limit k plans (run_slots seed c n m) is on below p i;
     }

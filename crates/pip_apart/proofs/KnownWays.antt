@@ -35,7 +35,7 @@ both_known n (r ∷ rs) qs all more = (all.0, both_known n rs qs all.1 more)
 reverse_known : (n : ℕ) (rs : List Run) → AllByRecursion (λ r. r.choice < n) rs
     → AllByRecursion (λ r. r.choice < n) (reverse rs)
 reverse_known n [] all = tt
-reverse_known n (r ∷ rs) all = subst (AllByRecursion (λ r. r.choice < n)) (sym (reverse-append (r ∷ []) rs))
+reverse_known n (r ∷ rs) all = rw (reverse-append (r ∷ []) rs)
     (both_known n (reverse rs) (r ∷ []) (reverse_known n rs all.1) (all.0, tt))
 
 -- what holds of each choice holds of the choice of each run
@@ -50,10 +50,9 @@ module _ (vs : List Visit) (v : Extent) where
   witnessed [] k f at covered = cc
   witnessed (e ∷ fs) zero f at covered =
       let is : e ≡ f = cc in
-      let yes : is_covered v e.depth ≡ true = ap (λ f. is_covered v f.depth) is ∙ covered in (
+      let yes : is_covered v e.depth ≡ true = rw (is, covered) in (
         0,
-        ap (λ b. slice_get (map (witness_of vs) (if b then e ∷ filter (λ f. is_covered v f.depth) fs
-            else filter (λ f. is_covered v f.depth) fs)) 0) yes ∙ ap (λ f. Some (witness_of vs f)) is,
+        rw (yes, is),
       )
   witnessed (e ∷ fs) (suc k) f at covered =
       let (j, there) = witnessed fs k f at covered in
@@ -72,5 +71,4 @@ pub known_here : {W : Type 0} (items : W → List Run) (vs : List Visit) (fs : L
 known_here items vs fs ws same k less f here w there v covered n known =
     let at : slice_get fs k ≡ Some f = found_at items vs fs ws same k less f here w there in
     let (j, is) = witnessed vs v fs k f at (sym covered) in
-    subst (AllByRecursion (λ r. r.choice < n)) (sym (runs_here items vs fs ws same k less f here w there))
-    (each_run n (found_way vs f) (known.each j _ is))
+    rw (runs_here items vs fs ws same k less f here w there) (each_run n (found_way vs f) (known.each j _ is))

@@ -45,18 +45,17 @@ chain_in : (t : Tree) → IsSound t → (a b : ℕ) (x : Node) → find_node t b
 chain_in t s a b x e h =
     let (y, d) = chain_top t s a b h x e in
     let i = over_ancestry t s y x (found_in t a y d) (chain_over t s a b h y x d e) in
-    subst (λ n. In n (ancestry t b)) (found_name t a y d)
-    (subst (λ n. In y.name (ancestry t n)) (found_name t b x e) i)
+    rw (← found_name t a y d) (subst (λ n. In y.name (ancestry t n)) (found_name t b x e) i)
 
 in_chain : (t : Tree) → IsSound t → (a b : ℕ) (x : Node) → find_node t b ≡ Some x → In a (ancestry t b)
     → OnChain t a b
 in_chain t s a b x e h =
     let name = found_name t b x e in
     let i = found_in t b x e in
-    let (z, j, n, o) = ancestry_over t s x i a (subst (λ v. In a (ancestry t v)) (sym name) h) in
+    let (z, j, n, o) = ancestry_over t s x i a (rw name h) in
     elim o [
-      | inl same ↦ subst (λ v. OnChain t v b) (sym name ∙ sym (ap (λ z. z.name) same) ∙ n) here
-      | inr above ↦ subst (λ v. OnChain t v b) n (subst (OnChain t z.name) name (above_chain t s z x above))
+      | inl same ↦ rw (← n, same, name) here
+      | inr above ↦ rw (← n) (subst (OnChain t z.name) name (above_chain t s z x above))
     ]
 
 -- ---- what runs
@@ -81,7 +80,7 @@ part_stands p w m cpu part s same e =
       tree = w.tree;
       node = x;
       sound = s.bare.sound.tree;
-      laid = subst (LaysOut w.tree) (sym same) s.bare.shows.laid;
+      laid = rw same s.bare.shows.laid;
       found = f;
     }
 
@@ -92,13 +91,12 @@ pub part_below : (p : State) (w : World) (m : Memory) (top cpu part : ℕ) (b : 
 part_below p w m top cpu part b s same e h =
     let sound = s.bare.sound in
     let (x, f) = part_node w cpu part sound e in
-    let tells = h w.tree x sound.tree (subst (LaysOut w.tree) (sym same) s.bare.shows.laid) f in
+    let tells = h w.tree x sound.tree (rw same s.bare.shows.laid) f in
     let name : actor w (E.Poll cpu) ≡ part = go (runs_on w cpu) e in
     tests_agree b (has (ancestry w.tree (actor w (E.Poll cpu))) top)
-    (λ q. in_has top _ (subst (λ n. In top (ancestry w.tree n)) (sym name)
-    (chain_in w.tree sound.tree top part x f (tells.0 q))))
+    (λ q. in_has top _ (rw name (chain_in w.tree sound.tree top part x f (tells.0 q))))
     (λ q. tells.1 (in_chain w.tree sound.tree top part x f
-    (subst (λ n. In top (ancestry w.tree n)) name (has_in top (ancestry w.tree (actor w (E.Poll cpu))) q))))
+    (rw (← name) (has_in top (ancestry w.tree (actor w (E.Poll cpu))) q))))
   where
     go : (o : Option Occupant) → option_map (λ r. r.name) o ≡ Some part → occupant_name o ≡ part
     go None q = cc
@@ -133,6 +131,5 @@ asks_none p w cpu x e d = sym (go (runs_on w cpu) (outcome_of w (E.Fetch cpu)) e
     go (Some r) (O.Word u) q =
         let same : r.ctx ≡ x = cc in
         let z : (slice_index r.ctx.regs 1 == 0) ≡ false =
-        ne_eqb (slice_index r.ctx.regs 1) 0 (λ n. d (ap (λ c. slice_index c.regs 1) (sym same) ∙ n)) in
-        ap (λ b. (r.name == p && b) && yields_by (word_effect r.ctx u (instr_of u))) z
-        ∙ other_register (r.name == p) (yields_by (word_effect r.ctx u (instr_of u)))
+        ne_eqb (slice_index r.ctx.regs 1) 0 (λ n. d (rw (← same, n))) in
+        rw (z, other_register (r.name == p) (yields_by (word_effect r.ctx u (instr_of u))))

@@ -33,14 +33,14 @@ IsHeaded text = (rest : List ℕ) × (text ≡ decimal 0 ++ rest)
 
 unmarked : (text : List ℕ) → IsHeaded text → IsUnmarked text
 unmarked text h rest e =
-    let zero_first : decimal 0 ++ h.0 ≡ 48 ∷ h.0 = ap (λ d. d ++ h.0) (decimal_digit 0 (omega arith)) in
-    let both : 48 ∷ h.0 ≡ mark ∷ rest = sym zero_first ∙ sym h.1 ∙ e in
+    let zero_first : decimal 0 ++ h.0 ≡ 48 ∷ h.0 = rw (decimal_digit 0 (omega arith)) in
+    let both : 48 ∷ h.0 ≡ mark ∷ rest = rw (← zero_first, ← h.1, e) in
     let first : ◌≡◌ {A = ℕ} 48 33 = cc in
-    absurd (omega (arith, first))
+    absurd (omega arith)
 
 -- more may come after it
 more : (x y : List ℕ) → IsHeaded x → IsHeaded (x ++ y)
-more x y h = (h.0 ++ y, ap (λ z. z ++ y) h.1 ∙ append_assoc (decimal 0) h.0 y)
+more x y h = (h.0 ++ y, rw (h.1, append_assoc (decimal 0) h.0 y))
 
 module _ (cpu : ℕ) where
   abbrev top : List ℕ

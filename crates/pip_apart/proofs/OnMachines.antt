@@ -20,12 +20,11 @@ pub top_tells : (p : State) (w : World) (m : Memory) (cpu part : ℕ) (o : Optio
     → o ≡ top_at w cpu
 top_tells p w m cpu part o s same e h =
     let (x, f) = part_node w cpu part s.bare.sound e in
-    h w.tree x s.bare.sound.tree (subst (LaysOut w.tree) (sym same) s.bare.shows.laid) f
-    ∙ sym (go (runs_on w cpu) e)
+    cc (h w.tree x s.bare.sound.tree (subst (LaysOut w.tree) (sym same) s.bare.shows.laid) f, go (runs_on w cpu) e)
   where
     go : (r : Option Occupant) → option_map (λ r. r.name) r ≡ Some part → top_by w.tree r ≡ top_of w.tree part
     go None q = cc
-    go (Some r) q = let name : r.name ≡ part = cc in ap (top_of w.tree) name
+    go (Some r) q = let name : r.name ≡ part = cc in rw name
 
 -- where nothing runs there is none
 pub none_tells : (w : World) (cpu : ℕ) → option_map (λ r. r.name) (runs_on w cpu) ≡ None → None ≡ top_at w cpu
@@ -45,7 +44,7 @@ no_root w cpu e = sym (go (runs_on w cpu) e)
 
 -- as many processors
 pub as_many : (p : State) (w : World) → StandsAs p w → length w.cpus ≡ length p.cpus
-as_many p w s = ap length s.bare.shows.cpus
+as_many p w s = rw s.bare.shows.cpus
 
 -- the root stands
 pub root_stands : (p : State) (w : World) (m : Memory) → StandsAs p w → m ≡ p.memory → HasPartition m 1
@@ -53,7 +52,7 @@ root_stands p w m s same = record {
   tree = w.tree;
   node = w.tree.root;
   sound = s.bare.sound.tree;
-  laid = subst (LaysOut w.tree) (sym same) s.bare.shows.laid;
+  laid = rw same s.bare.shows.laid;
   found = subst (λ n. find_node w.tree n ≡ Some w.tree.root) (root_is_one w.tree s.bare.sound.tree) (root_found w.tree);
 }
 
@@ -61,5 +60,5 @@ root_stands p w m s same = record {
 pub taken_tells : (p : State) (w : World) (m : Memory) (o : Option ℕ) → StandsAs p w → m ≡ p.memory
     → InEach m 1 (λ t x. o ≡ first_taken t) → o ≡ first_taken w.tree
 taken_tells p w m o s same h =
-    h w.tree w.tree.root s.bare.sound.tree (subst (LaysOut w.tree) (sym same) s.bare.shows.laid)
+    h w.tree w.tree.root s.bare.sound.tree (rw same s.bare.shows.laid)
     (subst (λ n. find_node w.tree n ≡ Some w.tree.root) (root_is_one w.tree s.bare.sound.tree) (root_found w.tree))

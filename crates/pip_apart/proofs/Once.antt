@@ -48,22 +48,20 @@ guest_once : (a b : Memory) (w : World) (most limit : ℕ) (g h : GuestAlone) �
     → IsFoundAt a w most limit g → IsFoundAt b w most limit h → g ≡ h
 guest_once a b w most limit g h of_a of_b top f k =
     let n = length w.cpus in
-    let cpus : g.cpus ≡ h.cpus = f.cpus ∙ ap (λ p. processors_of w p) top ∙ sym k.cpus in
+    let cpus : g.cpus ≡ h.cpus = rw (f.cpus, top, ← k.cpus) in
     let here : IsTold (guest_model b n g.top g.cpus) w most limit h.lines h.count h.end =
-    subst (λ p. IsTold (guest_model b n p g.cpus) w most limit h.lines h.count h.end) (sym top)
-    (subst (λ cs. IsTold (guest_model b n h.top cs) w most limit h.lines h.count h.end) (sym cpus) k.told) in
-    let same : length b ≡ length a = as_many b n g.top g.cpus w most limit h.count h.lines h.end here
-    ∙ sym (as_many a n g.top g.cpus w most limit g.count g.lines g.end f.told) in
+    rw top (subst (λ cs. IsTold (guest_model b n h.top cs) w most limit h.lines h.count h.end) (sym cpus) k.told) in
+    let same : length b ≡ length a = cc (
+      as_many b n g.top g.cpus w most limit h.count h.lines h.end here,
+      as_many a n
+          g.top g.cpus w most limit g.count g.lines g.end f.told,
+    ) in
     let there : IsTold (guest_model a n g.top g.cpus) w most limit h.lines h.count h.end =
     rekeyed (guest_model b n g.top g.cpus) (IsGuestKey b n) (IsGuestKey a n)
     (told_alike b a n g.top g.cpus of_b of_a same) w most limit h.lines h.count h.end here in
     let (lines, (count, end)) = says_once (guest_model a n g.top g.cpus) (guests_have_one_key a n g.top g.cpus) w most
     limit g.count h.count g.lines h.lines g.end h.end f.told there in
-    ap (λ p. record { top = p; cpus = g.cpus; lines = g.lines; count = g.count; end = g.end }) top
-    ∙ (ap (λ cs. record { top = h.top; cpus = cs; lines = g.lines; count = g.count; end = g.end }) cpus
-    ∙ (ap (λ ls. record { top = h.top; cpus = h.cpus; lines = ls; count = g.count; end = g.end }) lines
-    ∙ (ap (λ c. record { top = h.top; cpus = h.cpus; lines = h.lines; count = c; end = g.end }) count
-    ∙ ap (λ e. record { top = h.top; cpus = h.cpus; lines = h.lines; count = h.count; end = e }) end)))
+    rw (top, cpus, lines, count, end)
 
 -- ---- all guests
 
@@ -83,6 +81,4 @@ pub known_once : KnownOnce
 known_once w most limit j k f g =
     let guests : j.guests ≡ k.guests = guests_once f.found.first g.found.first w most limit j.guests k.guests
     f.found.shape g.found.shape (f.found.tops_are ∙ sym g.found.tops_are) f.found.each g.found.each in
-    ap (λ gs. record { guests = gs; root = j.root; line = j.line }) guests
-    ∙ (ap (λ r. record { guests = k.guests; root = r; line = j.line }) (f.root_is ∙ sym g.root_is)
-    ∙ ap (λ l. record { guests = k.guests; root = k.root; line = l }) (f.line_is ∙ sym g.line_is))
+    rw (guests, f.root_is, ← g.root_is, f.line_is, ← g.line_is)

@@ -29,11 +29,11 @@ Never j = ⊥
 
 idle_poll : (w : World) (cpu : ℕ) → IsSoundWorld w → IsQuiet w → runs_on w cpu ≡ None
     → event w (E.Poll cpu) ≡ nothing w
-idle_poll w cpu s e k = ap (with_caches w.caches) (go (may_take w cpu (runs_on w cpu)) ∙ ap (none_taken w) k)
+idle_poll w cpu s e k = rw (go (may_take w cpu (runs_on w cpu)), k)
   where
     go : (b : Bool) → cond b (poll_line w cpu (runs_on w cpu) (lowest_line w w.tree.root.pending))
         (none_taken w (runs_on w cpu)) ≡ none_taken w (runs_on w cpu)
-    go true = ap (λ js. poll_line w cpu (runs_on w cpu) (lowest_line w js)) e
+    go true = rw e
     go false = refl
 
 module _ (w0 : World) (ps : List ℕ) (g : AreGuests w0 ps) (plans : List Plan) where

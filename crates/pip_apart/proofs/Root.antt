@@ -31,8 +31,7 @@ root_node t s = named_node t t.root.name s t.root (inl refl) refl
 -- an access of the root, by its row
 pub root_reach : (t : Tree) (va : ℕ) → IsSound t → reach t t.root.name va Load Word
     ≡ cond (is_misaligned va Word) (Faulted Alignment) (reach_by_row t va Load (row_at t.root.rows (vpage va)))
-root_reach t va s = ap (λ x. cond (is_misaligned va Word) (Faulted Alignment)
-    (reach_by_row t va Load (row_at x.rows (vpage va)))) (root_node t s)
+root_reach t va s = rw (root_node t s)
 
 -- the root loads the same at an address
 pub record LoadsSame (t u : Tree) (x y : Reached) : Type 0 where
@@ -48,8 +47,8 @@ module _ (Out : ℕ → Type 0) (t u : Tree) (k : KeepsRoot Out t u) (s : IsSoun
   place_same false true g i e = record { reached = refl; word = refl; context = refl }
   place_same false false g i e = record {
     reached = refl;
-    word = ap (λ w. Some (word_of w i)) e;
-    context = ap (λ w. Some (context_in (word_of w) i)) e;
+    word = rw e;
+    context = rw e;
   }
 
   row_same : (va : ℕ) (o : Option Row) → row_at t.root.rows (vpage va) ≡ o
@@ -59,9 +58,7 @@ module _ (Out : ℕ → Type 0) (t u : Tree) (k : KeepsRoot Out t u) (s : IsSoun
       let i = In-map (λ b. b.frame) b t.root.rows (find_in (λ b. b.at == vpage va) b t.root.rows e).0 in
       let h = k.hides b.frame i (out b refl) in
       let c = not (bit_and (right Load) b.rights == right Load) in
-      subst (λ x. LoadsSame t u (reach_by_row t va Load (Some b))
-      (cond x (Faulted Hidden) (cond c (Faulted Right) (Place b.frame (va % 4096 / 4))))) (sym h)
-      (place_same (hidden t b.frame) c b.frame (va % 4096 / 4) (k.words b.frame (out b refl)))
+      rw h (place_same (hidden t b.frame) c b.frame (va % 4096 / 4) (k.words b.frame (out b refl)))
 
   aligned_same : (m : Bool) (x y : Reached) → LoadsSame t u x y
       → LoadsSame t u (cond m (Faulted Alignment) x) (cond m (Faulted Alignment) y)
@@ -74,8 +71,7 @@ module _ (Out : ℕ → Type 0) (t u : Tree) (k : KeepsRoot Out t u) (s : IsSoun
       let one = row_same va (row_at t.root.rows (vpage va)) refl out in
       let two = subst (λ rs. LoadsSame t u (reach_by_row t va Load (row_at t.root.rows (vpage va)))
       (reach_by_row u va Load (row_at rs (vpage va)))) (sym k.rows) one in
-      subst (λ x. LoadsSame t u x (reach u u.root.name va Load Word)) (sym (root_reach t va s))
-      (subst (LoadsSame t u (cond (is_misaligned va Word) (Faulted Alignment)
+      rw (root_reach t va s) (subst (LoadsSame t u (cond (is_misaligned va Word) (Faulted Alignment)
       (reach_by_row t va Load (row_at t.root.rows (vpage va))))) (sym (root_reach u va r))
       (aligned_same (is_misaligned va Word) _ _ two))
 
@@ -85,8 +81,7 @@ module _ (Out : ℕ → Type 0) (t u : Tree) (k : KeepsRoot Out t u) (s : IsSoun
       → row_at t.root.rows (vpage a) ≡ Some b → Out b.frame) → handler u u.root.name v ≡ handler t t.root.name v
   handler_same v entry at =
       let l = loads_same (0xfffff000 + 4 * v) entry in
-      ap (λ o. handler_at u u.root.name (block_at u u.root.name o)) l.word
-      ∙ go (word_reached t (reach t t.root.name (0xfffff000 + 4 * v) Load Word)) at
+      rw (l.word, go (word_reached t (reach t t.root.name (0xfffff000 + 4 * v) Load Word)) at)
     where
       found : (a : ℕ) (b : Bool) → LoadsSame t u (reach t t.root.name a Load Word) (reach u u.root.name a Load Word)
           → handler_at u u.root.name (cond b (Some a) None) ≡ handler_at t t.root.name (cond b (Some a) None)
@@ -98,9 +93,11 @@ module _ (Out : ℕ → Type 0) (t u : Tree) (k : KeepsRoot Out t u) (s : IsSoun
       go None h = refl
       go (Some a) h =
           let l = loads_same a (h a refl) in
-          ap (λ x. handler_at u u.root.name (cond ((a % 4 == 0 && nat_le (a % 4096) 4028) && is_reached x) (Some a)
-          None)) l.reached
-          ∙ found a ((a % 4 == 0 && nat_le (a % 4096) 4028) && is_reached (reach t t.root.name a Load Word)) l
+          rw (
+            l.reached,
+            found a ((a % 4 == 0 && nat_le (a % 4096) 4028) && is_reached
+                (reach t t.root.name a Load Word)) l,
+          )
 
 -- ---- what a guest changes
 
@@ -113,10 +110,10 @@ module _ (t u : Tree) (q : ℕ) (s : IsSound t) (r : IsSound u) (n : IsName t q)
     where
       below : (z y : Node) → In g (config z) → In y (nodes t) → y.name ≡ q → (y ≡ z) ⊎ Above t y z → hidden u g ≡ true
       below z y c i d (inl o) =
-          let same : z ≡ node t q = sym o ∙ sym (named_node t q s y i d) in
+          let same : z ≡ node t q = rw (← o, ← named_node t q s y i d) in
           hidden_by u g (node u q) (node_found u q m).0
-          (subst (In g) (sym own) (subst (λ x. In g (config x)) same c))
-      below z y c i d (inr a) = absurd (h (subst (λ x. In g (row_pages x)) (sym (named_node t q s y i d))
+          (subst (In g) (sym own) (rw (← same) c))
+      below z y c i d (inr a) = absurd (h (rw (named_node t q s y i d)
           (holds_up t g s y z a (In-append_left g (config z) (row_pages z) c))))
 
       go : (z : Node) → In z (nodes t) → In g (config z)

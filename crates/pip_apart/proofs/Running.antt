@@ -112,7 +112,7 @@ module _ (w0 : World) (ps : List ℕ) (g : AreGuests w0 ps) (B : ℕ → World �
       → Ran p w u (s ∷ ss) (cond b (s ∷ slots_of w0 p ss) (slots_of w0 p ss))
       → Ran p w u (s ∷ ss) (slots_of w0 p (s ∷ ss))
   on_slot p s ss w u b e h =
-      subst (λ b. Ran p w u (s ∷ ss) (cond b (s ∷ slots_of w0 p ss) (slots_of w0 p ss))) (sym e) h
+      rw e h
 
   -- a turn of the guest, and one of another
   own_ran : (p : ℕ) (s : Slot) (ss xs : List Slot) (w u : World)
@@ -121,9 +121,9 @@ module _ (w0 : World) (ps : List ℕ) (g : AreGuests w0 ps) (B : ℕ → World �
       → Ran p w u (s ∷ ss) (s ∷ xs)
   own_ran p s ss xs w u own same h = record {
     run = own_turn plans p s ss xs w u own same h.run;
-    group = subst Group (sym (after_step plans w s ss)) h.group;
-    one = subst (One p (after_acts u (turns u (s ∷ xs)))) (sym (after_step plans w s ss))
-        (subst (λ x. One p x (after_acts (next_world plans w s) (all_steps plans (next_world plans w s) ss)))
+    group = rw (after_step plans w s ss) h.group;
+    one = rw (after_step plans w s ss) (subst (λ x. One p x
+        (after_acts (next_world plans w s) (all_steps plans (next_world plans w s) ss)))
         (sym (after-append u (turn_of u s) (turns (after_acts u (turn_of u s)) xs))) h.one);
   }
 
@@ -132,8 +132,8 @@ module _ (w0 : World) (ps : List ℕ) (g : AreGuests w0 ps) (B : ℕ → World �
       → Ran p (next_world plans w s) u ss xs → Ran p w u (s ∷ ss) xs
   other_ran p s ss xs w u others h = record {
     run = other_turn plans p s ss xs w u others h.run;
-    group = subst Group (sym (after_step plans w s ss)) h.group;
-    one = subst (One p (after_acts u (turns u xs))) (sym (after_step plans w s ss)) h.one;
+    group = rw (after_step plans w s ss) h.group;
+    one = rw (after_step plans w s ss) h.one;
   }
 
   pub run_on : (ss : List Slot) (w : World) → Group w → AllByRecursion (λ s. AreRaised plans s.step) ss
@@ -150,7 +150,7 @@ module _ (w0 : World) (ps : List ℕ) (g : AreGuests w0 ps) (B : ℕ → World �
   run_on (s ∷ ss) w c rs os p i u a = elim os.0 [
     | inl x ↦ elim (eqb_tells p x.0) [
       | inl e ↦
-          let o : runs_below w0 p s.cpu ≡ true = subst (λ n. runs_below w0 n s.cpu ≡ true) (sym e.1) x.2 in
+          let o : runs_below w0 p s.cpu ≡ true = rw e.1 x.2 in
           let t = turn_on w0 ps B C vain_alone later_alone vain later p s u v i r.group one o in
           on_slot p s ss w u true o (own_ran p s ss (slots_of w0 p ss) w u (in_has p _ t.own) t.acts
           (run_on ss (next_world plans w s) t.company rs.1 os.1 p i (after_acts u (turn_of u s)) t.alone))
@@ -168,8 +168,8 @@ module _ (w0 : World) (ps : List ℕ) (g : AreGuests w0 ps) (B : ℕ → World �
         let still = idle_turn v s.cpu s.step (idle v s.cpu r.group.sound r.group.no_faults (r.group.idle s.cpu k)) in
         on_slot p s ss w u false (none_below w0 p s.cpu g.sound k) (other_ran p s ss (slots_of w0 p ss) w u
         (none_below v p s.cpu r.group.sound (r.group.idle s.cpu k))
-        (run_on ss (next_world plans w s) (subst Group (sym still) r.group) rs.1 os.1 p i u
-        (subst (One p u) (sym still) one)))
+        (run_on ss (next_world plans w s) (rw still r.group) rs.1 os.1 p i u
+        (rw still one)))
   ]
     where
       v : World
@@ -202,7 +202,7 @@ module _ (w0 : World) (ps : List ℕ) (g : AreGuests w0 ps) (B : ℕ → World �
       → AllByRecursion (IsOfGuests w0 ps) ss → (p : ℕ) → In p ps → IsRunAsAlone plans p w0 ss (slots_of w0 p ss)
   guests_hold ss k b rs os p i =
       let h = (run_on ss w0 (group_at k b) rs os p i w0 (one_at p i (b p i))).run in
-      record { acts = h.acts; text = ap text_of h.acts; guest = h.guest }
+      search
 
   -- ---- the last of several turns
 
@@ -211,7 +211,7 @@ module _ (w0 : World) (ps : List ℕ) (g : AreGuests w0 ps) (B : ℕ → World �
       → AllByRecursion (IsOfGuests w0 ps) ss → Group (after_acts w (all_steps plans w ss))
   group_on [] w c rs os = c
   group_on (s ∷ ss) w c rs os =
-      subst Group (sym (after_step plans w s ss)) (group_on ss (next_world plans w s) (go os.0) rs.1 os.1)
+      rw (after_step plans w s ss) (group_on ss (next_world plans w s) (go os.0) rs.1 os.1)
     where
       v : World
       v = ready plans w s
@@ -222,8 +222,8 @@ module _ (w0 : World) (ps : List ℕ) (g : AreGuests w0 ps) (B : ℕ → World �
       go : IsOfGuests w0 ps s → Group (next_world plans w s)
       go (inl x) = let (y, b) = r.group.alone x.0 x.1 in
           (turn_on w0 ps B C vain_alone later_alone vain later x.0 s y v x.1 r.group b x.2).company
-      go (inr k) = subst Group
-          (sym (idle_turn v s.cpu s.step (idle v s.cpu r.group.sound r.group.no_faults (r.group.idle s.cpu k)))) r.group
+      go (inr k) = rw (idle_turn v s.cpu s.step (idle v s.cpu r.group.sound r.group.no_faults (r.group.idle s.cpu k)))
+          r.group
 
   -- a test leaves no more than there are
   fewer : (f : Slot → Bool) (ss : List Slot) → length (filter f ss) ≤ length ss
@@ -268,4 +268,4 @@ module _ (w0 : World) (ps : List ℕ) (g : AreGuests w0 ps) (B : ℕ → World �
 
 pub alone_is_an_order : AloneIsAnOrder
 alone_is_an_order w [] = refl
-alone_is_an_order w (s ∷ ss) = ap (λ acts. turn_of w s ++ acts) (alone_is_an_order (after_acts w (turn_of w s)) ss)
+alone_is_an_order w (s ∷ ss) = rw (alone_is_an_order (after_acts w (turn_of w s)) ss)

@@ -85,7 +85,7 @@ module _ (first : Memory) (machine : ℕ) (w : World) (p : ℕ) (cpus : List ℕ
       go true e = refl
       go false e =
           let shown : mark ∷ text ≡ guest_label p (at cs) (slice_index cpus c) =
-          ap (λ b. cond b text (mark ∷ text)) (sym e) in
+          cc in
           let x = told.all (mark ∷ text) (c ∷ cs) (can, shown) (λ z. let k : mark ∷ text ≡ [] = z in cc) tt in
           absurd (none x.place x.witness text x.at x.same)
 
@@ -93,8 +93,7 @@ module _ (first : Memory) (machine : ℕ) (w : World) (p : ℕ) (cpus : List ℕ
   next_at : (c t : ℕ) (cs : List ℕ) → is_kept p (at cs) (slice_index cpus c) ≡ true
       → at (c ∷ cs) ≡ after_acts (at cs) (turn (at cs) (slice_index cpus c) t)
   next_at c t cs e =
-      ap (λ b. cond b (after_acts (at cs) (turn (at cs) (slice_index cpus c) 0)) (at cs)) e
-      ∙ turn_after (at cs) (slice_index cpus c) 0 t
+      rw (e, turn_after (at cs) (slice_index cpus c) 0 t)
 
   stays_at : ((c : ℕ) (cs : List ℕ) → AreChoices M (c ∷ cs) → is_kept p (at cs) (slice_index cpus c) ≡ true)
       → AreProcessors w p cpus → (ss : List Slot) (cs : List ℕ) → AreChoices M cs → At (at cs) p
@@ -103,13 +102,12 @@ module _ (first : Memory) (machine : ℕ) (w : World) (p : ℕ) (cpus : List ℕ
   stays_at kept are (s ∷ ss) cs can a all =
       let (k, l, e) = are.all s.cpu all.0 in
       let i = kept k cs (l, can) in
-      let here : is_kept p (at cs) s.cpu ≡ true = subst (λ c. is_kept p (at cs) c ≡ true) e i in
+      let here : is_kept p (at cs) s.cpu ≡ true = rw (← e) i in
       let n = next_kept (at cs) p s.cpu s.step a here in
       let next : at (k ∷ cs) ≡ after_acts (at cs) (turn_of (at cs) s) =
-      next_at k s.step cs i ∙ ap (λ c. after_acts (at cs) (turn (at cs) c s.step)) e in (
+      rw (next_at k s.step cs i, e) in (
         n.inside,
-        subst (λ v. AreInsideTurns p v ss) next (stays_at kept are ss (k ∷ cs) (l, can)
-            (subst (λ v. At v p) (sym next) n.after) all.1),
+        rw (← next) (stays_at kept are ss (k ∷ cs) (l, can) (subst (λ v. At v p) (sym next) n.after) all.1),
       )
 
   -- a guest that stays inside does so after any choices, and each of its turns is kept
@@ -126,7 +124,7 @@ module _ (first : Memory) (machine : ℕ) (w : World) (p : ℕ) (cpus : List ℕ
       let o = are.run c l in
       let i = later.stays (s ∷ s ∷ []) (o, (o, tt)) in
       and_both (runs_below (at cs) p cpu) _ (in_has p _ i.0.below) (and_both (not (asks_next p (at cs) cpu)) _
-      (ap not (inside_turns_ask_not p (at cs) cpu 0 later.known.sound i.0)) (in_has p _ i.1.0.below))
+      (rw (inside_turns_ask_not p (at cs) cpu 0 later.known.sound i.0)) (in_has p _ i.1.0.below))
 
   later_at : At w p → AreProcessors w p cpus → StaysAlone w p → (cs : List ℕ) → AreChoices M cs → Later cs
   later_at a are stays [] can = record { known = a; stays = stays }
@@ -162,8 +160,8 @@ not_marked first machine w p cpus a are stays label text (c ∷ cs) h e =
     let cpu = slice_index cpus c in
     let i = tested_at first machine w p cpus a are stays c cs h.0 in
     let line : guest_label p v cpu ≡ text_of (turn v cpu 0) =
-    ap (λ b. cond b (text_of (turn v cpu 0)) (mark ∷ text_of (turn v cpu 0))) i in
-    no_mark cpu v text (sym line ∙ sym h.1 ∙ e)
+    rw i in
+    no_mark cpu v text (rw (← line, ← h.1, e))
 
 pub marked_guests_leave : MarkedGuestsLeave
 marked_guests_leave first w p cpus ws machine k most limit count x text end s n m q are told at e stays =
@@ -203,14 +201,13 @@ chosen first machine w p cpus a are stays (s ∷ ss) all cs can n e =
     let (k, l, d) = are.all s.cpu all.0 in
     let i = tested_at first machine w p cpus a are stays k cs (l, can) in
     let next : after_choices m w (k ∷ cs) ≡ after_acts v (turn_of v s) =
-    next_at first machine w p cpus k s.step cs i ∙ ap (λ c. after_acts v (turn v c s.step)) d in
+    rw (next_at first machine w p cpus k s.step cs i, d) in
     let rest = chosen first machine w p cpus a are stays ss all.1 (k ∷ cs) (l, can) n (grind (arith, e)) in
     record {
       choices = rest.choices;
       can = rest.can;
       count = rest.count;
-      world = rest.world ∙ ap (λ x. after_acts x (turns x ss)) next
-          ∙ sym (after-append v (turn_of v s) (turns (after_acts v (turn_of v s)) ss));
+      world = rw (rest.world, next, ← after-append v (turn_of v s) (turns (after_acts v (turn_of v s)) ss));
     }
 
 -- they are guests that stay inside
@@ -250,7 +247,7 @@ searches_add plans w ps found ss s a all os some =
     let line : text ≡ guest_label p v cpu =
     ap text_of (x.acts 0) ∙ ap (λ c. text_of (turn (after_acts w (turns w (slots_of w p ss))) c 0)) (sym d)
     ∙ ap (λ u. text_of (turn u cpu 0)) (sym y.world)
-    ∙ sym (ap (λ b. cond b (text_of (turn v cpu 0)) (mark ∷ text_of (turn v cpu 0))) i) in
+    ∙ sym (rw i) in
     let z = h.told.all text (k ∷ y.choices) ((l, y.can), line) some tt in
     record {
       guest = p;

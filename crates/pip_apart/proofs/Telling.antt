@@ -34,10 +34,10 @@ begins first n p w start s frames count is =
     let cpus_are : w.cpus ≡ p.cpus = s.bare.shows.cpus in
     record {
       memory = p.memory;
-      stands = subst (λ cs. StandsFor p.memory cs w) (sym cpus_are) s.bare;
+      stands = rw (← cpus_are) at s.bare;
       frames = frames;
-      cpus = ap length cpus_are ∙ count;
-      whole = is ∙ ap (λ cs. key_words first 0 cs p.memory) (sym cpus_are);
+      cpus = rw (cpus_are, count);
+      whole = rw (is, ← cpus_are);
     }
 
 -- no world has two keys
@@ -51,8 +51,7 @@ pub told_on : (first : Memory) (n m top tip : ℕ) (cpus ids : List ℕ) (w : Wo
     → IsTold (guest_model first m tip ids) w most limit ws count v
     → IsTold (guest_model first n top cpus) w most limit ws count v
 told_on first n m top tip cpus ids w most limit count ws v one two three h =
-    subst (λ c. IsTold (guest_model first n top c) w most limit ws count v) three
-    (subst (λ t. IsTold (guest_model first n t ids) w most limit ws count v) two
+    rw (← three) (subst (λ t. IsTold (guest_model first n t ids) w most limit ws count v) two
     (subst (λ x. IsTold (guest_model first x tip ids) w most limit ws count v) one h))
 
 -- what holds of an answer that is no error
@@ -65,7 +64,7 @@ if_one (Err e) P Q p f = tt
 -- all labels of a closed search are covered
 all_covered : (fs : List Found) → filter (λ (f : Found). true) fs ≡ fs
 all_covered [] = refl
-all_covered (f ∷ fs) = ap (λ xs. f ∷ xs) (all_covered fs)
+all_covered (f ∷ fs) = rw (all_covered fs)
 
 -- ---- all guests
 
@@ -76,7 +75,7 @@ pub found_at_key : (first : Memory) (count m : ℕ) (key : List ℕ) (w : World)
     → IsFoundAt first w most limit (record { top = top; cpus = cpus; lines = ws; count = n; end = v })
 found_at_key first count m key w most limit top tip n cpus ids ws v k one two three are told = record {
   cpus = are;
-  told = told_on first (length w.cpus) m top tip cpus ids w most limit n ws v (one ∙ sym k.cpus) two three told;
+  told = told_on first (length w.cpus) m top tip cpus ids w most limit n ws v (cc (k.cpus)) two three told;
 }
 
 shown_known : (m : Model) (s : m.State) (label way : List ℕ) → IsShownOn m s label way
@@ -88,9 +87,8 @@ shown_known m s label (c ∷ cs) shown = shown.0
 pub ways_known : (first : Memory) (m tip : ℕ) (cpus ids : List ℕ) (w : World) (most limit n : ℕ) (ws : List Witness)
     (v : Extent) → ids ≡ cpus → IsTold (guest_model first m tip ids) w most limit ws n v
     → AreWaysOf (length cpus) ws
-ways_known first m tip cpus ids w most limit n ws v same told = subst (λ xs. AreWaysOf (length xs) ws) same (record {
-  each = λ k x at. shown_known (guest_model first m tip ids) w x.label x.way (told.shown k x at).0;
-})
+ways_known first m tip cpus ids w most limit n ws v same told = rw (← same)
+    (record { each = λ k x at. shown_known (guest_model first m tip ids) w x.label x.way (told.shown k x at).0 })
 
 -- one more was found
 pub one_found : (P : GuestAlone → Type 0) (xs : List GuestSearch) (x : GuestSearch)
@@ -105,27 +103,27 @@ one_shown (y ∷ ys) x all h = (all.0, one_shown ys x all.1 h)
 
 pub tops_found : (xs : List GuestSearch) → map (λ g. g.top) (map alone_of xs) ≡ map (λ s. s.top) xs
 tops_found [] = refl
-tops_found (x ∷ xs) = ap (λ ts. x.top ∷ ts) (tops_found xs)
+tops_found (x ∷ xs) = rw (tops_found xs)
 
 one_taken : (xs : List GuestSearch) (x : GuestSearch) (ts : List ℕ) (i t : ℕ) → map (λ s. s.top) xs ≡ take i ts
     → x.top ≡ t → slice_get ts i ≡ Some t → map (λ s. s.top) (xs ++ x ∷ []) ≡ take (suc i) ts
-one_taken xs x ts i t before same at = tops_append xs ∙ ap₂ (λ a b. a ++ b ∷ []) before same ∙ sym (taken ts i at)
+one_taken xs x ts i t before same at = rw (tops_append xs, ap₂ (λ a b. a ++ b ∷ []) before same, ← taken ts i at)
   where
     tops_append : (ys : List GuestSearch) → map (λ s. s.top) (ys ++ x ∷ []) ≡ map (λ s. s.top) ys ++ x.top ∷ []
     tops_append [] = refl
-    tops_append (y ∷ ys) = ap (λ k. y.top ∷ k) (tops_append ys)
+    tops_append (y ∷ ys) = rw (tops_append ys)
 
     taken : (us : List ℕ) (k : ℕ) → slice_get us k ≡ Some t → take (suc k) us ≡ take k us ++ t ∷ []
     taken [] k e = cc
     taken (u ∷ us) zero e = ap (λ n. n ∷ []) (let is : u ≡ t = cc in is)
-    taken (u ∷ us) (suc k) e = ap (λ v. u ∷ v) (taken us k e)
+    taken (u ∷ us) (suc k) e = rw (taken us k e)
 
 -- one more guest was searched
 pub one_top : (xs : List GuestSearch) (x : GuestSearch) (ts : List ℕ) (i t : ℕ) → map (λ s. s.top) xs ≡ take i ts
     → x.top ≡ t → t ≡ get_or ts i t → i < length ts → map (λ s. s.top) (xs ++ x ∷ []) ≡ take (i + 1) ts
 one_top xs x ts i t before same is less =
     let one : suc i ≡ i + 1 = omega arith in
-    one_taken xs x ts i t before same (slice_get-get_or ts i t less ∙ ap Some (sym is)) ∙ ap (λ n. take n ts) one
+    rw (one_taken xs x ts i t before same (slice_get-get_or ts i t less ∙ ap Some (sym is)), one)
 
 -- ---- marks
 
@@ -138,24 +136,24 @@ member_at (y ∷ ys) (suc k) x e = inr (member_at ys k x e)
 pub none_marked : (ws : List Witness) → list_any (λ x. is_marked x.label) ws ≡ false → NoneLeaves ws
 none_marked ws off k x text at e =
     let no : is_marked x.label ≡ false = any_none (λ x. is_marked x.label) x ws off (member_at ws k x at) in
-    not_true (is_marked x.label) (ap not no) (ap is_marked e)
+    not_true (is_marked x.label) (rw no) (rw e)
 
 marked_alike : (vs : List Visit) (fs : List Found) → list_any (λ f. is_marked f.label.items) fs
     ≡ list_any (λ x. is_marked x.label) (map (witness_of vs) fs)
 marked_alike vs [] = refl
-marked_alike vs (f ∷ fs) = ap (λ b. is_marked f.label.items || b) (marked_alike vs fs)
+marked_alike vs (f ∷ fs) = rw (marked_alike vs fs)
 
 -- of a closed search the witnesses are marked as the labels are
 pub labels_marked : (depth : ℕ) (vs : List Visit) (fs : List Found) → list_any (λ f. is_marked f.label.items) fs
     ≡ list_any (λ x. is_marked x.label) (witnesses_of (Closed depth) vs fs)
 labels_marked depth vs fs =
-    marked_alike vs fs ∙ ap (λ gs. list_any (λ x. is_marked x.label) (map (witness_of vs) gs)) (sym (all_covered fs))
+    cc (marked_alike vs fs, all_covered fs)
 
 pub unmarked : (depth : ℕ) (vs : List Visit) (fs : List Found) (b : Bool)
     → b ≡ list_any (λ f. is_marked f.label.items) fs → not b ≡ true
     → list_any (λ x. is_marked x.label) (witnesses_of (Closed depth) vs fs) ≡ false
 unmarked depth vs fs true is e = cc
-unmarked depth vs fs false is e = sym (is ∙ labels_marked depth vs fs)
+unmarked depth vs fs false is e = cc (labels_marked depth vs fs)
 
 -- ---- guests one by one
 
@@ -165,14 +163,17 @@ all_first : (xs : List GuestSearch) (k : ℕ) (x : GuestSearch) → slice_get xs
 all_first [] k x e = cc
 all_first (y ∷ ys) zero x e =
     let same : y ≡ x = cc in
-    ap (λ z. stays z.end (alone_of z).lines && true) same ∙ second (stays x.end (alone_of x).lines)
+    rw (same, second (stays x.end (alone_of x).lines))
   where
     second : (b : Bool) → (b && true) ≡ b
     second true = refl
     second false = refl
 all_first (y ∷ ys) (suc k) x e =
-    ap (λ b. stays y.end (alone_of y).lines && b) (all_first ys k x e)
-    ∙ assoc (stays y.end (alone_of y).lines) (all_stay (map alone_of (take k ys))) (stays x.end (alone_of x).lines)
+    rw (
+      all_first ys k x e,
+      assoc (stays y.end (alone_of y).lines) (all_stay (map alone_of (take k ys)))
+          (stays x.end (alone_of x).lines),
+    )
   where
     assoc : (a b c : Bool) → (a && (b && c)) ≡ ((a && b) && c)
     assoc true b c = refl
@@ -183,11 +184,9 @@ none_after : (xs : List GuestSearch) (k : ℕ) (x : GuestSearch) → slice_get x
     → stays x.end (alone_of x).lines ≡ false → false ≡ all_stay (map alone_of xs)
 none_after [] k x e off = cc
 none_after (y ∷ ys) zero x e off =
-    let same : y ≡ x = cc in sym (ap (λ z. stays z.end (alone_of z).lines && all_stay (map alone_of ys)) same
-    ∙ ap (λ b. b && all_stay (map alone_of ys)) off)
+    let same : y ≡ x = cc in cc
 none_after (y ∷ ys) (suc k) x e off =
-    sym (ap (λ b. stays y.end (alone_of y).lines && b) (sym (none_after ys k x e off))
-    ∙ second (stays y.end (alone_of y).lines))
+    rw (← second (stays y.end (alone_of y).lines), none_after ys k x e off)
   where
     second : (b : Bool) → (b && false) ≡ false
     second true = refl
@@ -196,14 +195,13 @@ none_after (y ∷ ys) (suc k) x e off =
 module _ (xs : List GuestSearch) (k : ℕ) (x : GuestSearch) (b : Bool) (is : x ≡ get_or xs k x) (less : k < length xs)
     (said : b ≡ stays x.end (alone_of x).lines) where
   at_place : slice_get xs k ≡ Some x
-  at_place = slice_get-get_or xs k x less ∙ ap Some (sym is)
+  at_place = rw (slice_get-get_or xs k x less, ← is)
 
   pub not_all_stay : b ≡ false → false ≡ all_stay (map alone_of xs)
-  not_all_stay off = none_after xs k x at_place (sym said ∙ off)
+  not_all_stay off = none_after xs k x at_place (cc)
 
   pub all_stay_on : b ≡ true → all_stay (map alone_of (take k xs)) ≡ true
       → all_stay (map alone_of (take (k + 1) xs)) ≡ true
   all_stay_on on before =
       let one : k + 1 ≡ suc k = omega arith in
-      ap (λ n. all_stay (map alone_of (take n xs))) one ∙ all_first xs k x at_place
-      ∙ ap₂ (λ c d. c && d) before (sym said ∙ on)
+      rw (one, all_first xs k x at_place, ap₂ (λ c d. c && d) before (sym said ∙ on))

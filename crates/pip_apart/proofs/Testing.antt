@@ -30,5 +30,9 @@ yields_to Unknown e = cc
 -- at another step a turn makes the same events
 pub same_events : (w : World) (cpu t r : ℕ) → events_made (fetch_acts w t cpu) ≡ events_made (fetch_acts w r cpu)
 same_events w cpu t r =
-    sym (bare_events (record { step = t; cpu = cpu }) (fetch_acts w t cpu))
-    ∙ ap events_made (fetch_bare cpu t r w) ∙ bare_events (record { step = r; cpu = cpu }) (fetch_acts w r cpu)
+    cc (
+      bare_events (record { step = t; cpu = cpu }) (fetch_acts w t cpu),
+      fetch_bare cpu t r w,
+      bare_events
+          (record { step = r; cpu = cpu }) (fetch_acts w r cpu),
+    )

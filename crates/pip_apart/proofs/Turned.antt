@@ -34,10 +34,9 @@ pub turned : (w : World) (top cpu : ℕ) (asks before after kept : Bool) (q r : 
 turned w top cpu asks before after kept q r old new last made none same ends b a is =
     let (front, grew, whole) = made.text.sends in
     record {
-      world = subst (λ m. StandsFor m.memory m.cpus (after_acts w (turn w cpu 0))) (sym same) made.world.bare;
-      label_is = ends ∙ (grew ∙ (ap (λ v. v ++ front) none ∙ (sym (append-nil front) ∙ whole)));
-      kept_is = is ∙ (ap (λ x. x && (not asks && after)) b
-          ∙ ap (λ x. runs_below w top cpu && (not asks && x)) (a (after_acts w (turn w cpu 0)) made.world));
+      world = rw same made.world.bare;
+      label_is = rw (ends, grew, none, ← append-nil front, whole);
+      kept_is = rw (is, b, a (after_acts w (turn w cpu 0)) made.world);
     }
 
 -- how the three parts of the test come together
@@ -45,10 +44,10 @@ pub all_true : (b n a : Bool) → b ≡ true → n ≡ true → a ≡ (b && (n &
 all_true b n a e f = sym (ap₂ (λ x y. x && (y && a)) e f)
 
 pub second_false : (b n a : Bool) → b ≡ true → n ≡ false → n ≡ (b && (n && a))
-second_false b n a e f = f ∙ sym (ap₂ (λ x y. x && (y && a)) e f)
+second_false b n a e f = cc (ap₂ (λ x y. x && (y && a)) e f)
 
 pub first_false : (b n a : Bool) → b ≡ false → b ≡ (b && (n && a))
-first_false b n a e = e ∙ sym (ap (λ x. x && (n && a)) e)
+first_false b n a e = rw (e, ← e)
 
 -- ---- without caches
 
@@ -58,8 +57,7 @@ runs_alike w v top cpu b = ap₂ (λ (t : Tree) (cs : List (Option Occupant)).
     has (ancestry t (occupant_name (unwrap_or (slice_get cs cpu) None))) top) b.tree b.cpus
 
 asks_alike : (w v : World) (top cpu : ℕ) → IsBut w v → asks_next top w cpu ≡ asks_next top v cpu
-asks_alike w v top cpu b = ap₂ (asks_by top) (ap (λ (cs : List (Option Occupant)). unwrap_or (slice_get cs cpu) None)
-    b.cpus)
+asks_alike w v top cpu b = ap₂ (asks_by top) (rw b.cpus)
     (event_same w v (E.Fetch cpu) b).0
 
 bare : (w : World) (p : State) → IsBut w (record w { caches = p.caches })
@@ -80,14 +78,14 @@ chose w top cpu p1 p2 q asks kept label e h =
     let acts = turn_same w v cpu 0 b in
     let after = acts_same (turn v cpu 0) w v b in
     let later : IsBut (after_acts w (turn w cpu 0)) (after_acts v (turn v cpu 0)) =
-    subst (λ es. IsBut (after_acts w es) (after_acts v (turn v cpu 0))) (sym acts) after in
+    rw acts after in
     record {
       kept_is = ap₂ (λ a x. runs_below w top cpu && (not a && x))
-          (asks_alike w (record w { caches = p1.caches }) top cpu (bare w p1) ∙ sym e)
+          (cc (asks_alike w (record w { caches = p1.caches }) top cpu (bare w p1)))
           (runs_alike (after_acts w (turn w cpu 0)) (after_acts v (turn v cpu 0)) top cpu later)
           ∙ sym h.kept_is;
-      label_is = h.label_is ∙ ap text_of (sym acts);
-      world = subst (StandsFor q.memory q.cpus) (other (after_acts v (turn v cpu 0)) (after_acts w (turn w cpu 0))
+      label_is = rw (h.label_is, ← acts);
+      world = rw (← other (after_acts v (turn v cpu 0)) (after_acts w (turn w cpu 0))
           (record { tree = sym later.tree; cpus = sym later.cpus }))
           (bare_with q.memory q.cpus (after_acts v (turn v cpu 0)) (after_acts w (turn w cpu 0)).caches h.world);
     }
@@ -103,17 +101,18 @@ pub leads_kept : (first : Memory) (n top cpu : ℕ) (w : World) (q : State) (lab
 leads_kept first n top cpu w q label key h frames count is =
     let v : World = after_acts w (turn w cpu 0) in
     let cpus_are : v.cpus ≡ q.cpus = h.world.shows.cpus in
-    let next : guest_world top w cpu ≡ v = ap (λ b. cond b v w) h.kept_is in
+    let next : guest_world top w cpu ≡ v = rw h.kept_is in
     let shows : guest_label top w cpu ≡ text_of (turn w cpu 0) =
-    ap (λ b. cond b (text_of (turn w cpu 0)) (mark ∷ text_of (turn w cpu 0))) h.kept_is in (
-      subst (λ x. IsKeyOf first (turns_scope n) key (record { world = x; turns = 0 })) (sym next) (record {
+    rw h.kept_is in (
+      rw next (record {
         memory = q.memory;
         stands = subst (λ cs. StandsFor q.memory cs v) (sym cpus_are) h.world;
         frames = frames;
         cpus = ap length cpus_are ∙ count;
-        whole = is ∙ ap (λ cs. key_words first 0 cs q.memory) (sym cpus_are);
+        whole = is ∙ ap (λ cs. key_words first 0 cs q.memory)
+            (sym cpus_are);
       }),
-      h.label_is ∙ sym shows,
+      cc (h.label_is),
     )
 
 -- where the guest leaves
@@ -122,11 +121,11 @@ pub leads_left : (first : Memory) (n top cpu : ℕ) (w : World) (q : State) (lab
     → IsKeyOf first (turns_scope n) key (record { world = guest_world top w cpu; turns = 0 })
     × (mark ∷ label ≡ guest_label top w cpu)
 leads_left first n top cpu w q label key h k =
-    let next : guest_world top w cpu ≡ w = ap (λ b. cond b (after_acts w (turn w cpu 0)) w) h.kept_is in
+    let next : guest_world top w cpu ≡ w = rw h.kept_is in
     let shows : guest_label top w cpu ≡ mark ∷ text_of (turn w cpu 0) =
-    ap (λ b. cond b (text_of (turn w cpu 0)) (mark ∷ text_of (turn w cpu 0))) h.kept_is in (
-      subst (λ x. IsKeyOf first (turns_scope n) key (record { world = x; turns = 0 })) (sym next) k,
-      ap (λ l. mark ∷ l) h.label_is ∙ sym shows,
+    rw h.kept_is in (
+      rw next k,
+      rw h.label_is (sym shows),
     )
 
 -- what two facts say of an answer that is no error
@@ -155,5 +154,5 @@ chose_at first n top top1 top2 cpu key w p1 between p2 q asks kept label k at1 t
     let v1 : World = record w { caches = p1.caches } in
     let v2 : World = record w { caches = p2.caches } in
     let k2 = subst (λ m. IsKeyOf first (turns_scope m) key (record { world = w; turns = 0 })) (sym count) k in
-    chose w top cpu p1 p2 q asks kept label (asked v1 (at1 w k) ∙ ap (λ t. asks_next t v1 cpu) t1)
-    (subst (λ t. HasTurned v2 t cpu asks q label kept) t2 (has v2 (at2 w k2)))
+    chose w top cpu p1 p2 q asks kept label (rw (asked v1 (at1 w k), t1))
+    (rw (← t2) (has v2 (at2 w k2)))

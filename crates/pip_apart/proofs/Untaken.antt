@@ -43,11 +43,11 @@ not_lent w ps va s are off r e p i m =
     let t = w.tree in
     let (a, h) = are p i in
     let free : is_none (holder t t.root.name r.frame) ≡ true =
-    off_none (holder t t.root.name r.frame) (sym (ap (is_lent t) e) ∙ off) in
+    off_none (holder t t.root.name r.frame) (cc) in
     let none : holder t t.root.name r.frame ≡ None = is_nothing (holder t t.root.name r.frame) free in
     let here : node t p ≡ h.node = named_node t p s.tree h.node (inr h.others) h.name in
     holder_none t t.root.name r.frame h.node.name h.node none (in_other t s.tree h.node h.others) h.up
-    (In-append_right r.frame (config h.node) (row_pages h.node) (subst (λ x. In r.frame (row_pages x)) here m))
+    (In-append_right r.frame (config h.node) (row_pages h.node) (rw (← here) m))
   where
     off_none : (o : Option Node) → not (is_none o) ≡ false → is_none o ≡ true
     off_none None e = refl
@@ -60,8 +60,7 @@ not_lent w ps va s are off r e p i m =
 -- the root can't load at address 0
 no_first_load : (t : Tree) → IsSound t → is_reached (reach t t.root.name 0 Load Word) ≡ false
 no_first_load t s =
-    ap is_reached (root_reach t 0 s ∙ ap (λ o. cond (is_misaligned 0 Word) (Faulted Alignment)
-    (reach_by_row t 0 Load o)) (no_first_row t s))
+    rw (root_reach t 0 s, no_first_row t s)
 
 -- a word that isn't set is 0
 unset : (a : ℕ) → is_set (Some a) ≡ false → a ≡ 0
@@ -75,14 +74,13 @@ unset a e = eqb-true a 0 (on (a == 0) e)
 unset_none : (t : Tree) (k : ℕ) → IsSound t
     → is_set (word_reached t (reach t t.root.name (entry_at k) Load Word)) ≡ false
     → handler t t.root.name k ≡ None
-unset_none t k s off = ap (handler_at t t.root.name) (go (word_reached t (reach t t.root.name
-    (entry_at k) Load Word)) off)
+unset_none t k s off = rw (go (word_reached t (reach t t.root.name (entry_at k) Load Word)) off)
   where
     go : (o : Option ℕ) → is_set o ≡ false → block_at t t.root.name o ≡ None
     go None e = refl
     go (Some a) e =
         let zero : a ≡ 0 = unset a e in
-        ap (λ x. block_at t t.root.name (Some x)) zero ∙ ap (λ b. cond b (Some 0) None) (no_first_load t s)
+        rw (zero, no_first_load t s)
 
 -- where the test of a line says no, the root has no handler, and no guest has a page on which that depends
 untaken : (w : World) (ps : List ℕ) (j : ℕ) → IsSoundWorld w → ((p : ℕ) → In p ps → (a : ℕ) × IsTop w.tree a p)
@@ -95,9 +93,9 @@ untaken w ps j s are off =
       none = unset_none t (32 + j) s.tree set;
       entry = not_lent w ps (entry_at (32 + j)) s are lent;
       block = λ a e r f p i m.
-          let zero : a ≡ 0 = unset a (sym (ap is_set e) ∙ set) in
+          let zero : a ≡ 0 = unset a (cc) in
           let none = no_first_row t s.tree in
-          let bad : None ≡ Some r = sym none ∙ ap (λ x. row_at t.root.rows (vpage x)) (sym zero) ∙ f in cc;
+          let bad : None ≡ Some r = cc in cc;
     }
 
 -- pending lines are below 16

@@ -33,7 +33,7 @@ module _ (cpus : List ℕ) (e : Extent) (vs : List Visit) where
       ++ flat_map (found_line cpus e vs) fs ≡ flat_map (turn_line cpus)
       (map (witness_of vs)
       (if b then f ∷ filter (λ f. is_covered e f.depth) fs else filter (λ f. is_covered e f.depth) fs))) [
-        | true ↦ ap (λ k. turn_line cpus (witness_of vs f) ++ k) rest
+        | true ↦ rw rest
         | false ↦ rest
       ]
 
@@ -43,7 +43,7 @@ module _ (cpus : List ℕ) (e : Extent) (vs : List Visit) where
       → Appends a b (flat_map (found_line cpus e vs) (take (k + 1) fs))
   skipped a b fs k f at left before =
       one_more (found_line cpus e vs) a b b fs k f at before
-      (subst (Appends b b) (sym (ap (λ c. if c then turn_line cpus (witness_of vs f) else []) left)) (Appends-nil b))
+      (rw left (Appends-nil b))
 
 -- label k and its way, which were read of lists: its line
 module _ {W : Type 0} (items : W → List Run) (vs : List Visit) (fs : List Found) (ws : List W)
@@ -56,33 +56,26 @@ module _ {W : Type 0} (items : W → List Run) (vs : List Visit) (fs : List Foun
   line_here t cpus ids label rs own is its =
       let long : length (found_way vs f) ≡ f.depth =
       way_long vs fs t k f (found_at items vs fs ws same k less f here w there) in
-      ap (λ cs. leaving_text label ++ shown_text (f.depth - 1) (unmarked label) (flat_map (turns_text cs) rs)) own
-      ∙ ap (λ l. leaving_text l ++ shown_text (f.depth - 1) (unmarked l) (flat_map (turns_text cpus) rs)) is
-      ∙ (ap (λ n. leaving_text f.label.items
-      ++ shown_text (n - 1) (unmarked f.label.items) (flat_map (turns_text cpus) rs)) (sym long)
-      ∙ (ap (λ q. leaving_text f.label.items
-      ++ shown_text (length (found_way vs f) - 1) (unmarked f.label.items) (flat_map (turns_text cpus) q))
-      (its ∙ runs_here items vs fs ws same k less f here w there)
-      ∙ sym (ap (λ c. if c then turn_line cpus (witness_of vs f) else []) (sym covered))))
+      cc (runs_here items vs fs ws same k less f here w there)
 
 -- ---- all guests
 
 alone_text : (gs : List GuestSearch)
     → flat_map (λ g. guest_text (alone_of g)) gs ≡ flat_map guest_text (map alone_of gs)
 alone_text [] = refl
-alone_text (g ∷ gs) = ap (λ l. guest_text (alone_of g) ++ l) (alone_text gs)
+alone_text (g ∷ gs) = rw (alone_text gs)
 
 pub guests_text : (items gs : List GuestSearch) → gs ≡ items
     → flat_map (λ g. guest_text (alone_of g)) gs ≡ flat_map guest_text (map alone_of items)
-guests_text items gs is = ap (flat_map (λ g. guest_text (alone_of g))) is ∙ alone_text items
+guests_text items gs is = rw (is, alone_text items)
 
 -- what holds of all of a list holds of one
 pub all_at : {A : Type 0} (P : A → Type 0) (xs : List A) (k : ℕ) (x : A) → AllByRecursion P xs → slice_get xs k ≡ Some x
     → P x
 all_at P [] k x all at = cc
-all_at P (y ∷ ys) zero x all at = let same : y ≡ x = cc in subst P same all.0
+all_at P (y ∷ ys) zero x all at = let same : y ≡ x = cc in rw (← same) all.0
 all_at P (y ∷ ys) (suc k) x all at = all_at P ys k x all.1 at
 
 -- what is read of a list is one of it
 pub read_at : {A : Type 0} (xs : List A) (k : ℕ) (x : A) → k < length xs → x ≡ get_or xs k x → slice_get xs k ≡ Some x
-read_at xs k x less is = slice_get-get_or xs k x less ∙ ap Some (sym is)
+read_at xs k x less is = rw (slice_get-get_or xs k x less, ← is)

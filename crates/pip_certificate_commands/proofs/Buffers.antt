@@ -1,6 +1,5 @@
 -- Bytes that are read into the rest of a buffer.
 use Rattle.std.specs.Prelude.{◌≡◌, ℕ, ◌+◌, ◌≤◌, List, ◌++◌, length, take}
-use Rattle.std.proofs.Common.{sym, ap, ◌∙◌}
 use Rattle.std.proofs.Math.Seq.{take-append-add}
 use Rattle.std.proofs.lemmas.List.{length-take-le, take-append-le}
 use borrow.Rule.Slice.PartMut.{put_mid, post_of}
@@ -9,6 +8,4 @@ pub take_filled : (t n k : ℕ) (buf new : List ℕ) → t ≤ length buf → n 
     → take (t + n) (put_mid t k buf new) ≡ take t buf ++ take n new
 take_filled t n k buf new h i =
     let e = length-take-le t buf h in
-    ap (λ m. take (m + n) (take t buf ++ (new ++ post_of t k buf))) (sym e)
-    ∙ take-append-add (take t buf) (new ++ post_of t k buf) n
-    ∙ ap (λ r. take t buf ++ r) (take-append-le n new (post_of t k buf) i)
+    cc (take-append-add (take t buf) (new ++ post_of t k buf) n, take-append-le n new (post_of t k buf) i)

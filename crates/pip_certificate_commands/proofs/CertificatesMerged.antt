@@ -1,7 +1,6 @@
 -- Parts of one image whose lines could be merged.
-use Rattle.std.proofs.Common.{◌≡◌, ℕ, zero, suc, ◌≤◌, List, [], ◌∷◌, length, Some, refl, sym, ap, ◌∙◌}
+use Rattle.std.proofs.Common.{◌≡◌, ℕ, zero, suc, ◌≤◌, List, [], ◌∷◌, length, Some, refl, sym, ◌∙◌}
 use Rattle.std.proofs.Common.{subst, slice_get}
-use Rattle.std.specs.List.Sorted.{IsPermutation}
 use Rattle.pip_base.specs.Memory.{Memory, put_word}
 use Rattle.pip_base.proofs.Memory.{length-put_word}
 use Rattle.pip_every.specs.Keys.{IsKeyOf, key_words}
@@ -28,11 +27,11 @@ length-words_with m (b ∷ bs) = length-words_with (put_word m b.frame b.index b
 
 idle_count : (n : ℕ) → length (idle_cpus n) ≡ n
 idle_count zero = refl
-idle_count (suc n) = ap suc (idle_count n)
+idle_count (suc n) = rw (idle_count n)
 
 boot_count : (c : ℕ) → length (boot_cpus c) ≡ c
 boot_count zero = refl
-boot_count (suc c) = ap suc (idle_count c)
+boot_count (suc c) = rw (idle_count c)
 
 module _ (i : Image) (from : ℕ) (base : List BaseWord) (first : Memory) (least : 1 ≤ i.cpus) (most : i.cpus ≤ 4)
     (booted : IsBooted i.frames (image_word i.frames i.pages) first) where
@@ -54,8 +53,7 @@ module _ (i : Image) (from : ℕ) (base : List BaseWord) (first : Memory) (least
       → IsPartBooted i from base t first
   same ts are j t at =
       let p = are j t at in
-      subst (IsPartBooted i from base t)
-      (one_memory _ _ p.0 first (record { frames = refl; word = λ f i fi ii. refl }) p.1.laid booted.laid) p.2
+      rw (← one_memory _ _ p.0 first (record { frames = refl; word = λ f i fi ii. refl }) p.1.laid booted.laid) p.2
 
   checked : (ts : List ToldPart) → AreParts i from base ts
       → AreChecked (part_model i from (words_with first base)) (image_moment i) start ts
@@ -74,4 +72,4 @@ certificates_say i from base first ts text g least most booted are shuffled run 
     lines_merge (part_model i from (words_with first base)) (one_key (words_with first base) (part_scope i from))
     (start i from base first least most booted) (image_moment i) ts (lines_of text) g
     (starts i from base first least most booted) (checked i from base first least most booted ts are)
-    (subst (λ lines. IsPermutation lines (lines_of text)) (texts_back i from base ts are) shuffled) run whole
+    (rw (← texts_back i from base ts are) shuffled) run whole

@@ -9,7 +9,7 @@ use Rattle.pip_certificate_commands.specs.declared.reading.Limits.{Limits}
 use Rattle.pip_certificate_commands.proofs.TextSteps.{Telling}
 
 pub pred_suc : (n : ℕ) → 0 < n → n ≡ suc (n - 1)
-pred_suc n some = omega (arith, some)
+pred_suc n some = omega arith
 
 -- ---- a word of the base
 
@@ -32,8 +32,7 @@ module _ (l : Limits) (p : PartSaid) (least at : ℕ) where
 
   pub base_bad : (n : ℕ) (x rest : List ℕ) → is_base l least (number_in x 0) (number_in x 1) ≡ false
       → base_next n x rest ≡ fault_at K.Base at
-  base_bad n x rest is = ap (λ b. cond b (base_from l (with_base p (number_in x 0) (number_in x 1) (number_in x 2))
-      (word_place (number_in x 0) (number_in x 1) + 1) n (at + 12) rest) (fault_at K.Base at)) is
+  base_bad n x rest is = rw is
 
 -- ---- a run of the way
 
@@ -54,5 +53,4 @@ module _ (l : Limits) (p : PartSaid) (last : Option ℕ) (at : ℕ) where
 
   pub run_bad : (n : ℕ) (x rest : List ℕ) → fits_way l (length p.way) last (number_in x 0) (number_in x 1) ≡ false
       → run_next n x rest ≡ fault_at K.Way at
-  run_bad n x rest is = ap (λ b. cond b (runs_from l (with_run p (number_in x 0) (number_in x 1))
-      (Some (number_in x 0)) n (at + 8) rest) (fault_at K.Way at)) is
+  run_bad n x rest is = rw is

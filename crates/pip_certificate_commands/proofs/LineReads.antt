@@ -1,34 +1,32 @@
 -- How a line of any length is read, piece by piece.
 use Rattle.std.proofs.Common.{◌≡◌, ◌≢◌, ℕ, ◌+◌, ◌-◌, ◌≤◌, ◌<◌, List, [], ◌∷◌, ◌++◌, length, take, drop, Option, Some}
 use Rattle.std.proofs.Common.{None, refl, sym, ap, ◌∙◌, subst, append-nil, append_assoc, arith, length-append}
-use Rattle.std.specs.Prelude.{true, false, ◌==◌, ◌||◌, Result, Ok, Err, MatchResult}
+use Rattle.std.specs.Prelude.{true, false, ◌==◌, Result, Ok, Err, MatchResult}
 use Rattle.std.specs.Result.{IsErrAnd}
-use Rattle.std.specs.List.{list_any}
-use Rattle.std.specs.Io.KnownBytes.{Consumes, Keeps, prepend_known}
-use Rattle.std.proofs.KnownBytes.{Consumes-kept, Consumes-nil, Consumes-trans}
+use Rattle.std.specs.Io.KnownBytes.{Consumes, prepend_known}
+use Rattle.std.proofs.KnownBytes.{Consumes-trans}
 use Rattle.std.proofs.Math.Seq.{take-length}
 use Rattle.std.proofs.lemmas.List.Folds.{list_any-append}
 use Rattle.pip_input.specs.Lines.{BeginsLine, HasNoNewline}
 use Rattle.pip_input.proofs.Buffers.{part_after, part_few}
 use Rattle.pip_input.proofs.Newlines.{found_none, found_some}
 use Rattle.pip_input.proofs.Taking.{line_split}
-use Rattle.pip_io.specs.Causes.{RoseByOne}
 use Rattle.pip_io.specs.Gathering.{between}
 use Rattle.pip_io.specs.Newlines.{IsFirstNewline}
 use Rattle.pip_certificate_commands.specs.LongLines.{ReadsAfter, StopsLine, TakesHeld, TakesNextLine}
 use Rattle.pip_certificate_commands.specs.declared.commands.merge.line_reader.LineKind.TheVariants.{Whole, Last, End}
-use Rattle.pip_certificate_commands.specs.declared.commands.merge.line_reader.LineStop.TheVariants.{Unread, Memory}
+use Rattle.pip_certificate_commands.specs.declared.commands.merge.line_reader.LineStop.TheVariants.{Memory}
 
 -- where a call stops with an error that is known
 pub stopped : {T E : Type 0} (r : Result T E) {e : E} (P : T → Type 0) (Q : E → Type 0) → IsErrAnd r (λ y. y ≡ e) → Q e
     → MatchResult r P Q
 stopped (Ok v) P Q h q = absurd h
-stopped (Err y) P Q h q = subst Q (sym h) q
+stopped (Err y) P Q h q = rw h q
 
 -- ---- what is held
 
 plain_both : (xs ys : List ℕ) → HasNoNewline xs → HasNoNewline ys → HasNoNewline (xs ++ ys)
-plain_both xs ys h k = list_any-append (λ b. b == 10) xs ys ∙ ap (λ b. b || list_any (λ b. b == 10) ys) h ∙ k
+plain_both xs ys h k = rw (list_any-append (λ b. b == 10) xs ys, h, k)
 
 all_of : (held : List ℕ) → take (length held - 0) (drop 0 held) ≡ held
 all_of held = ap (λ n. take n held) (let z : length held - 0 ≡ length held = omega arith in z) ∙ take-length held
@@ -37,10 +35,10 @@ all_of held = ap (λ n. take n held) (let z : length held - 0 ≡ length held = 
 begins_at : (n : ℕ) (held : List ℕ) → IsFirstNewline held (Some n) → BeginsLine n held
 begins_at n held h =
     subst (λ k. BeginsLine k held) (let z : 0 + n ≡ n = omega arith in z)
-    (found_some 0 held refl n (subst (λ b. IsFirstNewline b (Some n)) (sym (all_of held)) h))
+    (found_some 0 held refl n (rw (all_of held) h))
 
 has_none : (held : List ℕ) → IsFirstNewline held None → HasNoNewline held
-has_none held h = found_none 0 held refl (subst (λ b. IsFirstNewline b None) (sym (all_of held)) h)
+has_none held h = found_none 0 held refl (rw (all_of held) h)
 
 module _ (s e : ℕ) (chunk held line line' : List ℕ) (order : s ≤ e) (is : between chunk s e ≡ held) where
   -- up to a newline
@@ -49,12 +47,10 @@ module _ (s e : ℕ) (chunk held line line' : List ℕ) (order : s ≤ e) (is : 
   takes_front n found added =
       let begins : BeginsLine n (between chunk s e) = begins_at n (between chunk s e) found in
       let inside = begins.inside in
-      let few : n + 1 ≤ e - s = part_few (n + 1) s e chunk (omega (arith, inside)) in (
+      let few : n + 1 ≤ e - s = part_few (n + 1) s e chunk (omega arith) in (
         take n (between chunk s e),
         begins.plain,
-        sym is
-            ∙ (line_split n (between chunk s e) begins
-            ∙ ap (λ k. (take n (between chunk s e) ++ 10 ∷ []) ++ k) (sym (part_after (n + 1) s e chunk order few))),
+        cc (line_split n (between chunk s e) begins, part_after (n + 1) s e chunk order few),
         added,
       )
 
@@ -62,9 +58,9 @@ module _ (s e : ℕ) (chunk held line line' : List ℕ) (order : s ≤ e) (is : 
   pub takes_all : IsFirstNewline (between chunk s e) None → line' ≡ line ++ between chunk s e
       → TakesHeld held (between chunk e e) line line' false
   takes_all found added = (
-    subst HasNoNewline is (has_none (between chunk s e) found),
+    rw (← is) (has_none (between chunk s e) found),
     ap (λ n. take n (drop e chunk)) (let z : e - e ≡ 0 = omega arith in z),
-    added ∙ ap (λ k. line ++ k) is,
+    rw (added, is),
   )
 
 -- ---- a line that is being read: what was held at first and these bytes, none of which is a newline
@@ -80,7 +76,7 @@ consumes_held : (held more : List ℕ) (a b : Option (List ℕ)) → Consumes a 
     → Consumes (prepend_known held a) b (held ++ more)
 consumes_held held more None b c = tt
 consumes_held held more (Some xs) None c = absurd c
-consumes_held held more (Some xs) (Some ys) c = ap (λ k. held ++ k) c ∙ sym (append_assoc held more ys)
+consumes_held held more (Some xs) (Some ys) c = rw (c, ← append_assoc held more ys)
 
 -- of what was read a front was taken, and the rest is held
 front_of : (front back : List ℕ) (a b : Option (List ℕ)) → Consumes a b (front ++ back)
@@ -91,18 +87,17 @@ front_of front back (Some xs) (Some ys) c = c ∙ append_assoc front back ys
 
 none_of : (held : List ℕ) → length held ≡ 0 → held ≡ []
 none_of [] e = refl
-none_of (b ∷ bs) e = absurd (omega (arith, e))
+none_of (b ∷ bs) e = absurd (omega arith)
 
 module _ (held line : List ℕ) (a b c : Option (List ℕ)) (r : IsReading held a b line) where
   read_so_far : Consumes (prepend_known held a) b line
-  read_so_far = subst (Consumes (prepend_known held a) b) (sym r.is) (consumes_held held r.more a b r.read)
+  read_so_far = rw r.is (consumes_held held r.more a b r.read)
 
   module _ (count : ℕ) (more : List ℕ) (reads : ReadsAfter count more b c) where
     at_end : count ≡ 0 → Consumes (prepend_known held a) c line
     at_end none =
-        let empty : more ≡ [] = none_of more (reads.size ∙ none) in
-        subst (Consumes (prepend_known held a) c) (append-nil line)
-        (subst (λ m. Consumes (prepend_known held a) c (line ++ m)) empty
+        let empty : more ≡ [] = none_of more (cc (reads.size)) in
+        rw (← append-nil line) (subst (λ m. Consumes (prepend_known held a) c (line ++ m)) empty
         (Consumes-trans (prepend_known held a) b c line more read_so_far reads.read))
 
     -- the input ended
@@ -110,7 +105,7 @@ module _ (held line : List ℕ) (a b c : Option (List ℕ)) (r : IsReading held 
     last_line none some = (r.plain, at_end none, reads.ended none, some)
 
     pub no_line : count ≡ 0 → line ≡ [] → TakesNextLine held more line a c End
-    no_line none empty = (subst (Consumes (prepend_known held a) c) empty (at_end none), reads.ended none)
+    no_line none empty = (rw (← empty) (at_end none), reads.ended none)
 
     -- there is no memory for what was read
     pub reading_lacks : (before now : ℕ) → now ≡ before → StopsLine held a c before now Memory
@@ -126,9 +121,10 @@ module _ (held line : List ℕ) (a b c : Option (List ℕ)) (r : IsReading held 
     module _ (held' line' : List ℕ) where
       pub whole_line : TakesHeld more held' line line' true → TakesNextLine held held' line' a c Whole
       whole_line (front, plain, split, is) =
-          subst (λ l. TakesNextLine held held' l a c Whole) (sym is) (
+          rw is (
             plain_both line front r.plain plain,
-            subst (Consumes (prepend_known held a) (prepend_known held' c)) (sym (append_assoc line front (10 ∷ [])))
+            subst (Consumes (prepend_known held a) (prepend_known held' c))
+                (sym (append_assoc line front (10 ∷ [])))
                 (Consumes-trans (prepend_known held a) b (prepend_known held' c) line (front ++ 10 ∷ []) read_so_far
                 (front_of (front ++ 10 ∷ []) held' b c (subst (Consumes b c) split reads.read))),
           )
@@ -137,5 +133,5 @@ module _ (held line : List ℕ) (a b c : Option (List ℕ)) (r : IsReading held 
       pub longer : count ≢ 0 → TakesHeld more held' line line' false → length line < length line'
       longer some (plain, none, is) =
           let size = reads.size in
-          let both : length line' ≡ length line + length more = ap length is ∙ length-append line more in
-          omega (arith, size, some, both)
+          let both : length line' ≡ length line + length more = rw (is, length-append line more) in
+          omega arith

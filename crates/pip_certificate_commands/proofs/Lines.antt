@@ -1,5 +1,5 @@
 -- The lines of a part, put together from pieces.
-use Rattle.std.proofs.Common.{◌≡◌, ℕ, ◌≤◌, List, [], ◌∷◌, ◌++◌, map, length, take, ap, sym, ◌∙◌, subst, arith}
+use Rattle.std.proofs.Common.{◌≡◌, ℕ, ◌≤◌, List, [], ◌∷◌, ◌++◌, map, length, take, sym, ◌∙◌, arith}
 use Rattle.std.proofs.Common.{append_assoc, append-nil, ap₂, refl, Result}
 use Rattle.std.proofs.lemmas.Grind.{flat_map-append}
 use Rattle.std.proofs.lemmas.List.{length-map, take_all}
@@ -35,22 +35,21 @@ module _ {K T E : Type 0} (told : K → Writing) (old new : K) (r : Result T E) 
       → Writes told old new r (codes "part " ++ (about ++ (core_words (number_list n) ++ 10 ∷ [])))
       → Writes told old new r (line_text (entry_line (Tells about n)))
   told_line about n w =
-      subst (Writes told old new r) (three_pieces (codes "part ") about (core_words (number_list n))) w
+      rw (← three_pieces (codes "part ") about (core_words (number_list n))) w
 
 -- the line of a key, by its bytes
 pub stop_bytes : (kind : List ℕ) (x : Reached)
     → flat_map byte_digits x.key.items ++ (kind ++ (core_words (x.depth ∷ []) ++ 10 ∷ [])) ≡ stop_line kind (stop_of x)
-stop_bytes kind x = three_pieces (flat_map byte_digits x.key.items) kind (core_words (x.depth ∷ []))
-    ∙ ap (λ b. line_text (flat_map byte_digits b ++ kind ++ core_words (x.depth ∷ []))) (sym x.packed)
+stop_bytes kind x = cc (three_pieces (flat_map byte_digits x.key.items) kind (core_words (x.depth ∷ [])), x.packed)
 
 -- all of them
 pub all_taken : {A B : Type 0} (f : A → B) (xs : List A) (k : ℕ) → length xs ≤ k → take k (map f xs) ≡ map f xs
-all_taken f xs k most = let same = length-map xs f in take_all k (map f xs) (omega (arith, most, same))
+all_taken f xs k most = let same = length-map xs f in take_all k (map f xs) (omega arith)
 
 mapped : {A : Type 0} (f : A → List ℕ) (xs : List A)
     → flat_map line_text (map f xs) ≡ flat_map (λ x. line_text (f x)) xs
 mapped f [] = refl
-mapped f (x ∷ xs) = ap (λ t. line_text (f x) ++ t) (mapped f xs)
+mapped f (x ∷ xs) = rw (mapped f xs)
 
 -- the four pieces of a text
 abbrev pub own_lines : Checked → List ℕ
@@ -76,8 +75,11 @@ four_pieces c counts =
     let asks = λ (x : Stop). entry_line (Asks (key_digits x.key) x.depth) in
     let shows = λ (label : List ℕ). entry_line (Shows (inner label)) in
     let last = entry_line (Tells c.about.bytes (told_numbers (told_part c))) in
-    let named : last_line c ≡ line_text last = ap (λ n. line_text (entry_line (Tells c.about.bytes n))) counts in
-    sym (flat_map-append line_text (map own ks) (map asks bs ++ (map shows ls ++ last ∷ []))
-    ∙ ap₂ (λ x y. x ++ y) (mapped own ks) (flat_map-append line_text (map asks bs) (map shows ls ++ last ∷ [])
-    ∙ ap₂ (λ x y. x ++ y) (mapped asks bs) (flat_map-append line_text (map shows ls) (last ∷ [])
-    ∙ ap₂ (λ x y. x ++ y) (mapped shows ls) (append-nil (line_text last) ∙ sym named))))
+    let named : last_line c ≡ line_text last = rw counts in
+    cc (
+      ap₂ (λ x y. x ++ y) (mapped own ks) (flat_map-append line_text (map asks bs) (map shows ls ++ last ∷ []) ∙ ap₂
+          (λ x y. x ++ y) (mapped asks bs) (flat_map-append line_text (map shows ls) (last ∷ []) ∙ ap₂ (λ x y. x ++ y)
+          (mapped shows ls) (append-nil (line_text last) ∙ sym named))),
+      flat_map-append line_text (map own ks)
+          (map asks bs ++ (map shows ls ++ last ∷ [])),
+    )

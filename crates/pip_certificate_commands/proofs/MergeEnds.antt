@@ -1,25 +1,24 @@
 -- How `merge` ends. The streams go from a to b.
-use Rattle.std.proofs.Common.{◌≡◌, ◌≢◌, ℕ, inl, inr, Option, None, List, [], refl, subst, append-nil}
+use Rattle.std.proofs.Common.{◌≡◌, ◌≢◌, ℕ, inl, inr, Option, None, List, [], refl, append-nil}
 use Rattle.std.proofs.Common.{arith, cond}
 use Rattle.std.specs.Prelude.{Bool, true, false, codes, not}
 use Rattle.pip_command_contracts.specs.EndsBy.{EndsBy, EndsWithResponse, IsAnswered, IsOfAnswer, Response, plainly}
 use Rattle.pip_command_contracts.specs.Pacing.{Waits}
 use Rattle.pip_command_contracts.specs.Streams.{EndsLine, IsCalm, Streams}
-use Rattle.pip_command_contracts.proofs.Endings.{apart, by_memory, by_plain, by_read_fault}
+use Rattle.pip_command_contracts.proofs.Endings.{apart, by_memory, by_plain}
 use Rattle.pip_command_contracts.proofs.Waiting.{waits_first}
 use Rattle.pip_io.specs.Taken.{Keeps}
 use Rattle.pip_io.specs.Histories.{writing}
-use Rattle.pip_model.specs.Grammar.{lines_of}
 use Rattle.pip_model.specs.Text.{line_text}
 use Rattle.pip_certificate_parts.specs.Merges.{Merging, is_whole, no_merging, uneven_of}
 use Rattle.pip_certificate_parts.specs.declared.faults.MergeFault.{MergeFault}
 use Rattle.pip_certificate_parts.specs.declared.faults.MergeFault.TheVariants as F
 use Rattle.pip_switch.specs.Standing.{State}
-use Rattle.pip_certificate_commands.specs.MergeDues.{BreaksAt, fault_status, fault_text, merge_due, merge_response}
+use Rattle.pip_certificate_commands.specs.MergeDues.{fault_status, fault_text, merge_due, merge_response}
 use Rattle.pip_certificate_commands.specs.MergeDues.{merged_text, uneven_text}
 use Rattle.pip_certificate_commands.specs.MergeReading.{StopsMerge, TakesBreak, TakesMerge}
 use Rattle.pip_certificate_commands.specs.declared.commands.merge.MergeStop.{MergeStop}
-use Rattle.pip_certificate_commands.specs.declared.commands.merge.MergeStop.TheVariants.{Bad, Memory, Unread}
+use Rattle.pip_certificate_commands.specs.declared.commands.merge.MergeStop.TheVariants.{Bad, Memory}
 
 -- ---- where it waits at first
 
@@ -63,7 +62,7 @@ module _ (code : ℕ) (p : Option State) (a b : Streams) (flushed : code ≢ 4 �
       → EndsBy merge_due code p a b
   merge_lacks is line {stop} why stopped kept quiet =
       let t : StopsMerge a.left b.left a.reads b.reads line Memory =
-      subst (StopsMerge a.left b.left a.reads b.reads line) why stopped in
+      rw why at stopped in
       by_memory merge_due code p a b (record { reads = λ not. t.1; writes = λ not. quiet }) flushed apart
       t.0.0 t.0.1 none is tt kept
 
@@ -73,7 +72,7 @@ module _ (code : ℕ) (p : Option State) (a b : Streams) (flushed : code ≢ 4 �
     | inl all ↦ record {
       is = inr (
         n,
-        (line, (fault, subst (λ bs. BreaksAt (lines_of bs) n line fault) (append-nil t.bytes) (all []), refl)),
+        (line, (fault, rw (← append-nil t.bytes) (all []), refl)),
       );
       decided = inl (record { number = n; line = line; fault = fault; fixed = all });
     }
@@ -88,12 +87,10 @@ module _ (code : ℕ) (p : Option State) (a b : Streams) (flushed : code ≢ 4 �
       → EndsBy merge_due code p a b
   merge_broken n fault {line} {said} {stop} why stopped quiet same ends =
       let t : StopsMerge a.left b.left a.reads b.reads line (Bad n fault) =
-      subst (StopsMerge a.left b.left a.reads b.reads line) why stopped in
+      rw why at stopped in
       by_plain merge_due code p a b (record { reads = λ not. t.1; writes = quiet }) flushed apart t.0.bytes t.0.taken
       none start (fault_status fault) (fault_text n line fault) (is_answer fault) (broken_answered n line fault t.0)
-      (subst (λ l. EndsLine (fault_status fault) (fault_text n l fault) code (writing a.written a.writes)
-      (writing b.written b.writes)) same
-      ends)
+      (rw (← same) ends)
 
   -- all lines were merged
   pub merge_merged : (g : Merging) → TakesMerge a.left b.left g → IsCalm code a b

@@ -1,6 +1,6 @@
 -- How lines are merged, one after another.
 use Rattle.std.proofs.Common.{◌≡◌, ◌≢◌, ℕ, ◌+◌, ◌≤◌, ◌<◌, inl, inr, Option, List, [], ◌∷◌, ◌++◌, length, Ok, Err}
-use Rattle.std.proofs.Common.{refl, sym, ap, ◌∙◌, subst, append-nil, append_assoc, arith, length-append, nat_le, cond}
+use Rattle.std.proofs.Common.{refl, sym, ◌∙◌, subst, append-nil, append_assoc, arith, length-append, nat_le, cond}
 use Rattle.std.specs.Prelude.{Bool, true, false, MatchResult, Result}
 use Rattle.std.specs.Io.KnownBytes.{Consumes, prepend_known}
 use Rattle.std.proofs.KnownBytes.{Consumes-nil, Consumes-trans, Keeps-refl, prepend_known-nil}
@@ -9,7 +9,6 @@ use Rattle.pip_core_text.specs.CoreRead.{AreWholeLines}
 use Rattle.pip_input.specs.Lines.{HasNoNewline}
 use Rattle.pip_input.proofs.LinesOf.{lines_last, lines_newline}
 use Rattle.pip_input.proofs.Taking.{all_read}
-use Rattle.pip_io.specs.Causes.{RoseByOne}
 use Rattle.pip_model.specs.Grammar.{lines_of}
 use Rattle.pip_certificate_parts.specs.Entries.{entry_of}
 use Rattle.pip_certificate_parts.specs.Merges.{Merging, merge_entry, merge_lines, no_merging, on_value}
@@ -43,7 +42,7 @@ numbered_good n m line more is = go (nat_le n most_lines) refl is
 on_more : (x : Result Merging MergeFault) (line : List ℕ) (m more : Merging) → x ≡ Ok m
     → merge_entry m (entry_of line) ≡ Ok more → on_value x (λ n. merge_lines n (line ∷ [])) ≡ Ok more
 on_more x line m more is one =
-    ap (λ x. on_value x (λ n. merge_lines n (line ∷ []))) is ∙ ap (λ r. on_value r (λ n. Ok n)) one
+    rw (is, one)
 
 merge_append : (m : Merging) (xs ys : List (List ℕ))
     → merge_lines m (xs ++ ys) ≡ on_value (merge_lines m xs) (λ n. merge_lines n ys)
@@ -66,7 +65,7 @@ one_more_merges n lines line m more good number is =
       merged = merge_append no_merging lines (line ∷ []) ∙ on_more _ line m more good.merged one.is;
       few = let few = one.few in
           let size : length (lines ++ line ∷ []) ≡ length lines + 1 = length-append lines (line ∷ []) in
-          omega (arith, few, size, number);
+          omega arith;
     }
 
 -- ---- where reading is
@@ -86,12 +85,11 @@ pub at_first : (m : Merging) (held : List ℕ) (left : Option (List ℕ)) → he
     → IsAfterLines 0 m held left left
 at_first m held left none empty = record {
   lines = [];
-  taken = subst (λ h. Consumes left (prepend_known h left) []) (sym none)
-      (subst (λ l. Consumes left l []) (sym (prepend_known-nil left)) (Consumes-nil left));
+  taken = rw none (subst (λ l. Consumes left l []) (sym (prepend_known-nil left)) (Consumes-nil left));
   whole = inl refl;
   read = [];
   told = λ rest. refl;
-  good = record { merged = ap Ok (sym empty); few = omega arith };
+  good = record { merged = rw (← empty); few = omega arith };
   count = refl;
 }
 
@@ -105,10 +103,10 @@ some_bytes (x ∷ xs) not = omega arith
 module _ (before : ℕ) (m : Merging) (held : List ℕ) (left a : Option (List ℕ)) (at : IsAfterLines before m held left a)
   where
     lines_are : lines_of at.lines ≡ at.read
-    lines_are = ap lines_of (sym (append-nil at.lines)) ∙ (at.told [] ∙ append-nil at.read)
+    lines_are = rw (← append-nil at.lines, at.told [], append-nil at.read)
 
     lines_good : MergesTo (lines_of at.lines) m
-    lines_good = subst (λ ls. MergesTo ls m) (sym lines_are) at.good
+    lines_good = rw lines_are at.good
 
     -- with what is held they were read
     pub read_held : Consumes left a (at.lines ++ held)
@@ -139,23 +137,22 @@ module _ (before : ℕ) (m : Merging) (held : List ℕ) (left a : Option (List �
         taken = read_on b bytes taken;
         begins = begins_merge bytes plain;
       },
-      subst (λ n. RoseByOne n now) same rose,
+      rw (← same) rose,
     )
     line_unread b line first mid now same L.Memory ((bytes, taken), no_faults) =
-        (((at.lines ++ held) ++ bytes, read_on b bytes taken), no_faults ∙ same)
+        (((at.lines ++ held) ++ bytes, read_on b bytes taken), cc)
 
     -- the input ended
     pub ends : (b : Option (List ℕ)) (held' line : List ℕ) → TakesNextLine held held' line a b End → TakesMerge left b m
     ends b held' line (taken, ended) = record {
       bytes = at.lines;
-      taken = subst (Consumes left b) (append-nil at.lines)
-          (Consumes-trans left (prepend_known held a) b at.lines [] at.taken taken);
+      taken = rw (← append-nil at.lines) (Consumes-trans left (prepend_known held a) b at.lines [] at.taken taken);
       ended = ended;
       good = lines_good;
     }
 
     number_is : before + 1 ≡ length at.read + 1
-    number_is = ap (λ k. k + 1) (sym at.count)
+    number_is = rw (← at.count)
 
     broken : (line : List ℕ) (after : List (List ℕ)) (bytes : List ℕ) (fault : MergeFault)
         → lines_of bytes ≡ at.read ++ line ∷ after → merge_numbered (before + 1) m line ≡ Err fault
@@ -185,8 +182,11 @@ module _ (before : ℕ) (m : Merging) (held : List ℕ) (left a : Option (List �
       all_taken = Consumes-trans left (prepend_known held' b) b front held' front_taken (held_read held' b)
 
       told_on : (rest : List ℕ) → lines_of (front ++ rest) ≡ at.read ++ line ∷ lines_of rest
-      told_on rest = ap lines_of (append_assoc at.lines (line ++ 10 ∷ []) rest)
-          ∙ (at.told ((line ++ 10 ∷ []) ++ rest) ∙ ap (λ ls. at.read ++ ls) (lines_newline line rest takes.0))
+      told_on rest = rw (
+        append_assoc at.lines (line ++ 10 ∷ []) rest,
+        at.told ((line ++ 10 ∷ []) ++ rest),
+        lines_newline line rest takes.0,
+      )
 
       whole_breaks : (fault : MergeFault) → merge_numbered (before + 1) m line ≡ Err fault
           → TakesBreak left b (before + 1) line fault
@@ -194,7 +194,7 @@ module _ (before : ℕ) (m : Merging) (held : List ℕ) (left a : Option (List �
         bytes = front ++ held';
         taken = all_taken;
         is = inl (λ rest. broken line (lines_of (held' ++ rest)) ((front ++ held') ++ rest) fault
-            (ap lines_of (append_assoc front held' rest) ∙ told_on (held' ++ rest)) bad);
+            (rw (append_assoc front held' rest, told_on (held' ++ rest))) bad);
       }
 
       -- it wasn't merged
@@ -202,7 +202,7 @@ module _ (before : ℕ) (m : Merging) (held : List ℕ) (left a : Option (List �
           → GivesNumbered (before + 1) (Err stop) more (merge_numbered (before + 1) m line)
           → StopsMerge left b first now line stop
       whole_stops first now no_faults more (Bad number fault) (same, bad) =
-          (subst (λ k. TakesBreak left b k line fault) (sym same) (whole_breaks fault bad), no_faults)
+          (rw same (whole_breaks fault bad), no_faults)
       whole_stops first now no_faults more Unread gives = absurd gives
       whole_stops first now no_faults more Memory gives = ((front ++ held', all_taken), no_faults)
 
@@ -214,9 +214,9 @@ module _ (before : ℕ) (m : Merging) (held : List ℕ) (left a : Option (List �
         taken = front_taken;
         whole = inr (at.lines ++ line, sym (append_assoc at.lines line (10 ∷ [])));
         read = at.read ++ line ∷ [];
-        told = λ rest. told_on rest ∙ sym (append_assoc at.read (line ∷ []) (lines_of rest));
+        told = λ rest. cc (told_on rest, append_assoc at.read (line ∷ []) (lines_of rest));
         good = one_more_merges (before + 1) at.read line m more at.good number_is good;
-        count = length-append at.read (line ∷ []) ∙ ap (λ k. k + 1) at.count;
+        count = rw (length-append at.read (line ∷ []), at.count);
       }
 
     -- ---- the last line, which has none
@@ -226,7 +226,7 @@ module _ (before : ℕ) (m : Merging) (held : List ℕ) (left a : Option (List �
       last_taken = Consumes-trans left (prepend_known held a) b at.lines line at.taken takes.1
 
       last_is : lines_of (at.lines ++ line) ≡ at.read ++ line ∷ []
-      last_is = at.told line ∙ ap (λ ls. at.read ++ ls) (lines_last line takes.0 (some_bytes line takes.3))
+      last_is = rw (at.told line, lines_last line takes.0 (some_bytes line takes.3))
 
       last_breaks : (fault : MergeFault) → merge_numbered (before + 1) m line ≡ Err fault
           → TakesBreak left b (before + 1) line fault
@@ -241,8 +241,7 @@ module _ (before : ℕ) (m : Merging) (held : List ℕ) (left a : Option (List �
         bytes = at.lines ++ line;
         taken = last_taken;
         ended = takes.2;
-        good = subst (λ ls. MergesTo ls more) (sym last_is)
-            (one_more_merges (before + 1) at.read line m more at.good number_is good);
+        good = rw last_is (one_more_merges (before + 1) at.read line m more at.good number_is good);
       }
 
       -- it was merged, or not
@@ -251,6 +250,6 @@ module _ (before : ℕ) (m : Merging) (held : List ℕ) (left a : Option (List �
           → MatchResult r (λ _. TakesMerge left b more × (now ≡ first)) (StopsMerge left b first now line)
       last_ends first now no_faults more (Ok u) gives = (last_merges more gives, no_faults)
       last_ends first now no_faults more (Err (Bad number fault)) (same, bad) =
-          (subst (λ k. TakesBreak left b k line fault) (sym same) (last_breaks fault bad), no_faults)
+          (rw same (last_breaks fault bad), no_faults)
       last_ends first now no_faults more (Err Unread) gives = absurd gives
       last_ends first now no_faults more (Err Memory) gives = ((at.lines ++ line, last_taken), no_faults)

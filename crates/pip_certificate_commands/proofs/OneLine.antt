@@ -1,9 +1,8 @@
 -- What a choice shows is one line, with its newline, or nothing.
-use Rattle.std.proofs.Common.{◌≡◌, ℕ, zero, suc, ◌%◌, ◌/◌, ◌^◌, true, false, ◌==◌, ◌||◌, nat_lt, ◌⊎◌, inl, inr}
-use Rattle.std.proofs.Common.{List, [], ◌∷◌, ◌++◌, Option, None, Some, refl, sym, ap, ◌∙◌, subst, arith, append-nil}
+use Rattle.std.proofs.Common.{◌≡◌, ℕ, zero, suc, ◌%◌, ◌/◌, ◌^◌, true, false, ◌==◌, nat_lt, ◌⊎◌, inl, inr}
+use Rattle.std.proofs.Common.{List, [], ◌∷◌, ◌++◌, Option, None, Some, refl, sym, arith, append-nil}
 use Rattle.std.proofs.Common.{append_assoc, decimal}
 use Rattle.std.specs.Fmt.{digit_glyph, digits, digits_onto}
-use Rattle.std.specs.List.{list_any}
 use Rattle.std.specs.Prelude.{Bool, codes, if◌then◌else◌, slice_index, ◌-◌}
 use Rattle.std.proofs.lemmas.Bool.Decides.{nat_tests}
 use Rattle.std.proofs.lemmas.List.Folds.{list_any-append}
@@ -32,7 +31,7 @@ pub record IsPlain (bytes : List ℕ) : Type 0 where
 
 pub both : {xs ys : List ℕ} → IsPlain xs → IsPlain ys → IsPlain (xs ++ ys)
 both {xs} {ys} h k = record {
-  none = list_any-append (λ b. b == 10) xs ys ∙ (ap (λ b. b || list_any (λ b. b == 10) ys) h.none ∙ k.none);
+  none = rw (list_any-append (λ b. b == 10) xs ys, h.none, k.none);
 }
 
 digits_plain : (k n : ℕ) (acc : List ℕ) → HasNoNewline acc → HasNoNewline (digits_onto k 10 false n acc)
@@ -72,10 +71,10 @@ line_is t cpu x h =
 
 -- so is a line that is put together in another way
 alike : (t cpu : ℕ) (x line : List ℕ) → IsPlain x → line ≡ head t cpu ++ (x ++ 10 ∷ []) → IsOneLine line
-alike t cpu x line h is = subst IsOneLine (sym is) (line_is t cpu x h)
+alike t cpu x line h is = rw is (line_is t cpu x h)
 
 alone : (a : List ℕ) → IsOneLine a → IsOneLine (a ++ [])
-alone a is = subst IsOneLine (sym (append-nil a)) is
+alone a is = rw (append-nil a) is
 
 -- a text, and a number after a space
 and_number : {a : List ℕ} (n : ℕ) → IsPlain a → IsPlain (a ++ codes " " ++ decimal n)

@@ -2,7 +2,7 @@
 use Rattle.std.proofs.Common.{◌≡◌, ◌≢◌, ℕ, ◌+◌, ◌*◌, inl, inr, Option, None}
 use Rattle.std.proofs.Common.{Some, List, [], ◌++◌, refl, sym, ap, ◌∙◌, subst}
 use Rattle.std.proofs.Common.{arith, append-nil, length}
-use Rattle.std.specs.Prelude.{MatchOption, Ok, option_map}
+use Rattle.std.specs.Prelude.{MatchOption, Ok}
 use Rattle.std.specs.Io.KnownBytes.{Consumes}
 use Rattle.std.proofs.KnownBytes.{Consumes-trans}
 use Rattle.pip_base.specs.Memory.{Memory}
@@ -59,7 +59,7 @@ pub after_front : {K : Type 0} (allows : Streams → Type 0) (told : K → Writi
     → allows (beside left j (told sink)))
     → MayRead allows (HasNoFault (header_said h)) (beside b k (told mid))
 after_front allows told {sink} {mid} {h} {m} {a} {b} {j} {k} kept same l paced = λ bytes left taken is.
-    subst (λ s. allows (beside left k (told s))) (sym kept) (subst (λ n. allows (beside left n (told sink))) (sym same)
+    rw kept (subst (λ n. allows (beside left n (told sink))) (sym same)
     (paced (l.front ++ bytes) left (both_read h m a b left l bytes taken)
     (begins l bytes, subst (λ f. HasNoFault f bytes) (said_same l.begins) is)))
 
@@ -85,14 +85,14 @@ module _ (from code : ℕ) (p : Option State) (a c : Streams)
       fault = e;
       first = no_image parts bytes c.left e is;
       inside = inside;
-      named = ap (option_map (λ line. plainly 2 line None)) named;
+      named = rw named;
     });
     decided = elim is [
       | inl all ↦ inl (inl (
         record {
           fault = e;
-          first = ap (λ t. t.fault) (faulty parts bytes c.left e (inl all)) ∙ after_fault parts _;
-          fixed = λ rest. all rest ∙ sym (faulty parts bytes c.left e (inl all));
+          first = rw (faulty parts bytes c.left e (inl all), after_fault parts _);
+          fixed = λ rest. cc (all rest, faulty parts bytes c.left e (inl all));
         },
         inside,
       ))
@@ -106,7 +106,7 @@ module _ (from code : ℕ) (p : Option State) (a c : Streams)
       → EndsBy due code p a c
   part_lacks is {stop} why stopped kept quiet =
       let h : StoppedLoading T.Memory a.left c.left a.reads c.reads =
-      subst (λ s. StoppedLoading s a.left c.left a.reads c.reads) why stopped in
+      rw why at stopped in
       by_memory due code p a c (record { reads = λ not. h.1; writes = λ not. quiet }) flushed apart h.0.bytes h.0.read
       none is (inl h.0.header) kept
 
@@ -117,8 +117,8 @@ module _ (from code : ℕ) (p : Option State) (a c : Streams)
       (λ line. EndsLine 2 line code (writing a.written a.writes) (writing c.written c.writes)) → EndsBy due code p a c
   part_faulted {stop} {e} {f} why within stopped quiet same ends =
       let h : RefusesAfter image_parts a.left c.left a.reads c.reads e =
-      subst (λ s. StoppedLoading s a.left c.left a.reads c.reads) why stopped in
-      let inside : IsFaultWithin e = subst IsStopInside why within in
+      rw why at stopped in
+      let inside : IsFaultWithin e = rw why at within in
       by_refusal due code p a c start flushed apart none quiet e h.0 h.1 tt (λ good. (inl good, refl))
       (is_refused h.0 h.1.bytes e inside) same ends
 
@@ -131,8 +131,7 @@ module _ (from code : ℕ) (p : Option State) (a c : Streams)
     stops : {stop to : PartStop} → stop ≡ to → {before : ℕ} → before ≡ a.reads → Stops stop before
         → StopsText (after_said l.parsed) b c.left a.reads c.reads to
     stops {stop} {to} why {before} same stopped =
-        subst (λ f. StopsText f b c.left a.reads c.reads to) (said_same l.begins)
-        (subst (λ n. StopsText (header_said h) b c.left n c.reads to) same
+        rw (← said_same l.begins) (subst (λ n. StopsText (header_said h) b c.left n c.reads to) same
         (subst (λ s. StopsText (header_said h) b c.left before c.reads s) why stopped))
 
     -- a read failed
@@ -162,15 +161,14 @@ module _ (from code : ℕ) (p : Option State) (a c : Streams)
       | inl all ↦ record {
         is = inr (
           begins l t.bytes,
-          subst (λ r. IsPartAnswer from l.parsed r (plainly 2 (bad_part_line fault) None))
-              (sym (ap (after_said l.parsed) (sym (append-nil t.bytes)) ∙ all [])) refl,
+          rw (← append-nil t.bytes, all []) refl,
         );
         decided = inl (inr (record { begins = begins l t.bytes; fault = fault; fixed = all }));
       }
       | inr last ↦ record {
         is = inr (
           begins l t.bytes,
-          subst (λ r. IsPartAnswer from l.parsed r (plainly 2 (bad_part_line fault) None)) (sym last.0) refl,
+          rw last.0 refl,
         );
         decided = inr (last.1, tt);
       }
@@ -186,7 +184,7 @@ module _ (from code : ℕ) (p : Option State) (a c : Streams)
         by_plain due code p a c (record { reads = λ not. t.1; writes = quiet }) flushed apart
         (l.front ++ t.0.bytes) (both_read h m a.left b c.left l t.0.bytes t.0.taken) none start 2
         (bad_part_line fault) (inl (omega arith)) (bad_answered fault t.0)
-        (subst (λ x. EndsLine 2 x code (writing a.written a.writes) (writing c.written c.writes)) is ends)
+        (rw (← is) ends)
 
     -- the part was checked, and its text was written or not; or there was no memory for it
     pub part_checked : (said : PartSaid) → EndsText (header_said h) b c.left said → IsCalm code a c

@@ -1,5 +1,5 @@
 -- A part that was checked over the frames of an image is a part of the image.
-use Rattle.std.proofs.Common.{◌≡◌, ℕ, List, [], length, sym, ap, ◌∙◌, subst, arith}
+use Rattle.std.proofs.Common.{◌≡◌, ℕ, List, [], length, ap, ◌∙◌, subst, arith}
 use Rattle.pip_base.specs.Memory.{Memory}
 use Rattle.pip_every.specs.Keys.{IsKeyOf, model_of}
 use Rattle.pip_every.specs.Moments.{Moment, Scope, first_moment}
@@ -39,8 +39,8 @@ module _ {i : Image} {h : Header} {m : Memory} (b : BeginsFrames i h m) (from : 
   -- what is so over the words, the scope and the moment of the program is so over those of the image
   moved : (P : Memory → Scope → Moment → Type 0) → P words given (begun h.cpus)
       → P (words_with m base) (part_scope i from) (image_moment i)
-  moved P x = subst (λ w. P w (part_scope i from) (image_moment i)) held
-      (subst (λ s. P words s (image_moment i)) scope (subst (λ n. P words given (begun n)) b.cpus x))
+  moved P x = rw (← held) (subst (λ s. P words s (image_moment i)) scope
+      (subst (λ n. P words given (begun n)) b.cpus x))
 
   pub part_of : (p : Part) (text way : List ℕ) (k : Checked) → IsNumbered p text (length way) k
       → IsClosedPart (model_of words given) (portion_of p)
@@ -49,18 +49,15 @@ module _ {i : Image} {h : Header} {m : Memory} (b : BeginsFrames i h m) (from : 
       → text ≡ about_numbers h.frames h.cpus (length h.plans.items) h.pages from (part_sum ls m words)
       → IsPartBooted i from base (told_part k) m
   part_of p text way k is closed reached begins told = record {
-    closed = subst (λ q. IsClosedPart (model_of (words_with m base) (part_scope i from)) (portion_of q)) (sym is.part)
-        (moved (λ w s n. IsClosedPart (model_of w s) (portion_of p)) closed);
-    reached = subst (λ q. IsReachedPart (model_of (words_with m base) (part_scope i from)) (image_moment i)
-        (portion_of q)) (sym is.part) (moved (λ w s n. IsReachedPart (model_of w s) n (portion_of p)) reached);
+    closed = rw is.part (moved (λ w s n. IsClosedPart (model_of w s) (portion_of p)) closed);
+    reached = rw is.part (moved (λ w s n. IsReachedPart (model_of w s) n (portion_of p)) reached);
     begins = λ start key none.
         let size = is.way in
-        let few : way ≡ [] = none_of way (omega (arith, size, none)) in
+        let few : way ≡ [] = none_of way (omega arith) in
         let x = begins few in
         let there = moved (λ w s n. IsKeyOf w s x.0 n) x.1.0 in
         let same : x.0 ≡ start = one_key (words_with m base) (part_scope i from) x.0 start (image_moment i) there key in
-        subst (λ q. HasStop (stops q.keys.items) start 0) (sym is.part)
-        (subst (λ y. HasStop (stops p.keys.items) y 0) same x.1.1);
+        rw is.part (subst (λ y. HasStop (stops p.keys.items) y 0) same x.1.1);
     small = is.small;
     about = is.about ∙ (told ∙ (λ j. about_numbers (b.frames j) (b.cpus j) (length (b.plans j)) (b.pages j) from
         (part_sum ((raised ∙ ap lines_planned b.plans) j) m (held j))));
@@ -75,7 +72,6 @@ module _ {i : Image} {h : Header} {m : Memory} (b : BeginsFrames i h m) (from : 
     key,
     (
       moved (λ w s n. IsKeyOf w s key n) there,
-      subst (λ q. IsPortionOf (part_model i from (words_with m base)) key way marks (portion_of q)) (sym is.part)
-          (moved (λ w s n. IsPortionOf (model_of w s) key way marks (portion_of p)) portion),
+      rw is.part (moved (λ w s n. IsPortionOf (model_of w s) key way marks (portion_of p)) portion),
     ),
   )

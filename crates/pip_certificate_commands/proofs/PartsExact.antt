@@ -1,5 +1,5 @@
 -- A part that was read is answered to: by its lines, or by the line that names a fault of its text.
-use Rattle.std.proofs.Common.{◌≡◌, ℕ, ◌+◌, ◌*◌, inl, inr, List, None, Some, length, refl, sym, ap, subst}
+use Rattle.std.proofs.Common.{◌≡◌, ℕ, ◌+◌, ◌*◌, inl, List, None, Some, length, refl}
 use Rattle.std.proofs.Common.{Option, arith, true, false}
 use Rattle.std.specs.Prelude.{Bool, Ok, if◌then◌else◌}
 use Rattle.pip_base.specs.Memory.{Memory}
@@ -8,10 +8,9 @@ use Rattle.pip_command_contracts.specs.Loading.{BeginsFrames}
 use Rattle.pip_command_contracts.specs.Streams.{EndsLine}
 use Rattle.pip_image.specs.declared.header.Header.{Header}
 use Rattle.pip_io.specs.Histories.{Writing}
-use Rattle.pip_io.specs.Taken.{Keeps}
 use Rattle.pip_model.specs.Images.{Image}
 use Rattle.pip_certificate_parts.specs.MergeLaw.{ToldPart}
-use Rattle.pip_certificate_commands.specs.PartDues.{IsPartAnswer, IsPartJudged, fault_response, image_size, lines_text}
+use Rattle.pip_certificate_commands.specs.PartDues.{IsPartAnswer, fault_response, image_size, lines_text}
 use Rattle.pip_certificate_commands.specs.PartDues.{part_response}
 use Rattle.pip_certificate_commands.specs.PartExact.{booted_fault, booted_from, has_marks, marks_fault}
 use Rattle.pip_certificate_commands.specs.PartShown.{EndsWithPart, IsChecked, header_size, told_part, told_response}
@@ -49,10 +48,10 @@ module _ {i : Image} {h : Header} {m : Memory} (b : BeginsFrames i h m) (from : 
             m,
             (
               b.booted,
-              subst (λ o. IsPartJudged i from said m o (fault_response (booted_fault (image_size i) k))) (sym is) refl,
+              rw is refl,
             ),
           ),
-          subst (λ n. EndsLine 2 (bad_part_line (booted_fault n k)) code before after) size_same ends,
+          rw (← size_same) ends,
         ),
       ),
     ),
@@ -64,7 +63,7 @@ module _ {i : Image} {h : Header} {m : Memory} (b : BeginsFrames i h m) (from : 
       → EndsWithResponse (told_response h said (told_part c)) code before after → Ends
   ends_checked c is way none ends =
       by_test (has_marks (i.cpus + length i.plans) said (told_part c).portion) refl
-      (subst (λ v. EndsWithResponse v code before after) (response_same (told_part c)) ends)
+      (rw (← response_same (told_part c)) ends)
     where
       judged : (n : ℕ) (text : List ℕ) → plainly n text None ≡ part_response i said (told_part c)
           → IsPartAnswer from i (Ok said) (plainly n text None)
@@ -72,8 +71,7 @@ module _ {i : Image} {h : Header} {m : Memory} (b : BeginsFrames i h m) (from : 
         m,
         (
           b.booted,
-          subst (λ o. IsPartJudged i from said m o (plainly n text None)) (sym none)
-              (record { told = told_part c; is = is.is; said_is = is.said_is; way = way; text = same }),
+          rw none (record { told = told_part c; is = is.is; said_is = is.said_is; way = way; text = same }),
         ),
       )
 
@@ -87,8 +85,7 @@ module _ {i : Image} {h : Header} {m : Memory} (b : BeginsFrames i h m) (from : 
           (
             inl (omega arith),
             (
-              judged 0 (lines_text (told_part c)) (ap (λ b. if b then plainly 0 (lines_text (told_part c)) None
-                  else fault_response (marks_fault (image_size i) said)) (sym e)),
+              judged 0 (lines_text (told_part c)) (cc),
               said_so,
             ),
           ),
@@ -102,8 +99,7 @@ module _ {i : Image} {h : Header} {m : Memory} (b : BeginsFrames i h m) (from : 
             inl (omega arith),
             (
               judged 2 (bad_part_line (marks_fault (image_size i) said))
-                  (ap (λ b. if b then plainly 0 (lines_text (told_part c)) None
-                  else fault_response (marks_fault (image_size i) said)) (sym e)),
+                  (cc),
               said_so,
             ),
           ),

@@ -1,5 +1,5 @@
 -- A text that is written in pieces of digits.
-use Rattle.std.proofs.Common.{◌≡◌, ◌≢◌, ℕ, List, [], ◌++◌, sym, ap, ◌∙◌, subst, append_assoc, Result, Ok, Err}
+use Rattle.std.proofs.Common.{◌≡◌, ◌≢◌, ℕ, List, [], ◌++◌, append_assoc, Result, Ok, Err}
 use Rattle.std.specs.Prelude.{IsErr, MatchResult, OnErr, flat_map}
 use Rattle.std.proofs.lemmas.Grind.{flat_map-append}
 use Rattle.pip_io.specs.Taken.{Taken, Appends, AppendsPart, Keeps, SendsPart}
@@ -13,15 +13,13 @@ HasFront f a b rest all = (front : List ℕ) × Appends a b front × (front ++ f
 module _ (f : ℕ → List ℕ) (a b c : Taken) (rest all piece more : List ℕ) (split : rest ≡ piece ++ more)
     (h : HasFront f a b rest all) where
   all_is : (h.0 ++ flat_map f piece) ++ flat_map f more ≡ flat_map f all
-  all_is = append_assoc h.0 (flat_map f piece) (flat_map f more)
-      ∙ ap (λ t. h.0 ++ t) (sym (ap (flat_map f) split ∙ flat_map-append f piece more)) ∙ h.2
+  all_is = rw (append_assoc h.0 (flat_map f piece) (flat_map f more), ← flat_map-append f piece more, ← split, h.2)
 
   pub piece_more : Appends b c (flat_map f piece) → HasFront f a c more all
   piece_more w = (h.0 ++ flat_map f piece, Appends-trans a b c h.0 (flat_map f piece) h.1 w, all_is)
 
   pub piece_cut : AppendsPart b c (flat_map f piece) → AppendsPart a c (flat_map f all)
-  piece_cut w = subst (AppendsPart a c) all_is
-      (part_longer a c (h.0 ++ flat_map f piece) (flat_map f more)
+  piece_cut w = rw (← all_is) (part_longer a c (h.0 ++ flat_map f piece) (flat_map f more)
       (part_after a b c h.0 (flat_map f piece) h.1 w))
 
 -- a part was given

@@ -1,6 +1,6 @@
 -- No line of a part has a newline inside, so that a text which is cut at its newlines gives its lines again.
 use Rattle.std.proofs.Common.{◌≡◌, ℕ, suc, ◌%◌, ◌/◌, ◌==◌, ◌||◌, true, false, List, [], ◌∷◌, ◌++◌, map, length}
-use Rattle.std.proofs.Common.{inl, inr, refl, sym, ap, ◌∙◌, subst, append_assoc, Some, slice_get}
+use Rattle.std.proofs.Common.{inl, inr, refl, append_assoc, Some, slice_get}
 use Rattle.std.specs.List.{AllByRecursion, list_any}
 use Rattle.std.specs.Prelude.{Bool, codes, flat_map}
 use Rattle.pip_base.specs.Memory.{Memory}
@@ -46,8 +46,12 @@ pub lines_back : (lines : List (List ℕ)) → ArePlain lines → (rest : List �
     → lines_of (flat_map line_text lines ++ rest) ≡ lines ++ lines_of rest
 lines_back [] h rest = refl
 lines_back (l ∷ ls) h rest =
-    ap lines_of (append_assoc (line_text l) (flat_map line_text ls) rest)
-    ∙ (lines_newline l (flat_map line_text ls ++ rest) h.0.none ∙ ap (λ more. l ∷ more) (lines_back ls h.1 rest))
+    rw (
+      append_assoc (line_text l) (flat_map line_text ls) rest,
+      lines_newline l (flat_map line_text ls ++ rest)
+          h.0.none,
+      lines_back ls h.1 rest,
+    )
 
 -- ---- the lines of a part
 
@@ -69,8 +73,8 @@ asked_plain x = both (both {ys = codes " ?"} (bytes_plain (packed_key x.key)) (r
 
 -- a line of a trace without its newline
 inner_plain : (text : List ℕ) → IsOneLine text → IsPlain (inner text)
-inner_plain text (inl none) = subst (λ t. IsPlain (inner t)) (sym none) nothing
-inner_plain text (inr (line, (plain, is))) = subst (λ t. IsPlain (inner t)) (sym is) (of_line line plain)
+inner_plain text (inl none) = rw none nothing
+inner_plain text (inr (line, (plain, is))) = rw is (of_line line plain)
   where
     later : (t : Bool) (bs : List ℕ) → (t || list_any (λ c. c == 10) bs) ≡ false → HasNoNewline bs
     later true bs h = cc
@@ -79,7 +83,7 @@ inner_plain text (inr (line, (plain, is))) = subst (λ t. IsPlain (inner t)) (sy
     of_line : (line : List ℕ) → IsPlain line → IsPlain (inner (line ++ 10 ∷ []))
     of_line [] h = nothing
     of_line (x ∷ body) h =
-        subst IsPlain (sym (inner_of x 10 body)) (record { none = later (x == 10) body h.none })
+        rw (inner_of x 10 body) (record { none = later (x == 10) body h.none })
 
 can_show : (words : Memory) (i : Image) (from : ℕ) (label : List ℕ)
     → CanShow (part_model i from words) (image_moment i) label → IsOneLine label
@@ -87,8 +91,8 @@ can_show words i from label h = by_choices h.choices h.shown
   where
     by_choices : (cs : List ℕ) → IsShownOn (part_model i from words) (image_moment i) label cs → IsOneLine label
     by_choices [] s = absurd s
-    by_choices (c ∷ cs) s = subst IsOneLine (sym s.1)
-        (choice_shows (part_scope i from) (after_choices (part_model i from words) (image_moment i) cs) c)
+    by_choices (c ∷ cs) s = rw s.1 (choice_shows (part_scope i from)
+        (after_choices (part_model i from words) (image_moment i) cs) c)
 
 labels_plain : (labels : List (List ℕ)) → ((k : ℕ) (label : List ℕ) → slice_get labels k ≡ Some label → IsOneLine label)
     → ArePlain (map (λ label. entry_line (Shows (inner label))) labels)
@@ -116,12 +120,15 @@ part_plain i from base t (first, booted, is) =
     both_plain _ _ (all_plain _ own_plain t.portion.keys) (both_plain _ _ (all_plain _ asked_plain t.portion.asked)
     (both_plain _ _ (labels_plain t.portion.labels (λ k label at.
     can_show words i from label (is.reached.labels k label at).1))
-    (tells_plain t.about _ (subst IsPlain (sym is.about) (about_plain i from first words)), tt)))
+    (tells_plain t.about _ (rw is.about (about_plain i from first words)), tt)))
 
 -- the lines of the texts of parts, one after another
 pub texts_back : (i : Image) (from : ℕ) (base : List BaseWord) (ts : List ToldPart) → AreParts i from base ts
     → lines_of (flat_map lines_text ts) ≡ flat_map lines_of_part ts
 texts_back i from base [] are = refl
 texts_back i from base (t ∷ ts) are =
-    lines_back (lines_of_part t) (part_plain i from base t (are 0 t refl)) (flat_map lines_text ts)
-    ∙ ap (λ more. lines_of_part t ++ more) (texts_back i from base ts (λ k u at. are (suc k) u at))
+    rw (
+      lines_back (lines_of_part t) (part_plain i from base t (are 0 t refl)) (flat_map lines_text ts),
+      texts_back i
+          from base ts (λ k u at. are (suc k) u at),
+    )

@@ -1,6 +1,6 @@
 -- Keys that the program holds have words below 2^32.
 use Rattle.std.proofs.Common.{◌≡◌, ℕ, zero, suc, ◌^◌, ◌<◌, Bool, true, false, List, [], ◌∷◌, get_or}
-use Rattle.std.proofs.Common.{Some, slice_get, subst, arith, if◌then◌else◌, nat_lt}
+use Rattle.std.proofs.Common.{Some, slice_get, arith, if◌then◌else◌, nat_lt}
 use Rattle.pip_certificate_parts.specs.MergeLaw.{IsSmallStop}
 use Rattle.pip_certificate_parts.specs.declared.lines.PartNumbers.{PartNumbers}
 use Rattle.pip_search.specs.Certificates.{Stop}
@@ -31,7 +31,7 @@ small_words (b ∷ bs) w i = by_test (nat_lt b 128) (λ v k. small_words bs v k)
 pub small_stops : (keys : List Reached) (j : ℕ) (x : Stop) → slice_get (stops keys) j ≡ Some x → IsSmallStop x
 small_stops keys j x at =
     let r = at_map stop_of keys j x at in
-    subst IsSmallStop r.1.1 (record { words = λ i. small_words r.0.key.items 0 i; depth = r.0.low })
+    rw (← r.1.1) (record { words = λ i. small_words r.0.key.items 0 i; depth = r.0.low })
 
 pub same_numbers : (w k a l s : ℕ) {x y z u : ℕ} → k ≡ x → a ≡ y → l ≡ z → s ≡ u
     → numbers w k a l s ≡ numbers w x y z u

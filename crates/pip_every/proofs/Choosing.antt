@@ -1,13 +1,13 @@
 -- What a choice makes of a machine at a moment.
-use Rattle.std.proofs.Common.{◌≡◌, ℕ, ◌-◌, ◌<◌, ◌≤◌, nat_lt, if◌then◌else◌, List, [], ◌∷◌, ◌++◌, Option, Some}
-use Rattle.std.proofs.Common.{slice_index, refl, sym, ap, subst, ◌∙◌}
+use Rattle.std.proofs.Common.{◌≡◌, ℕ, ◌-◌, ◌<◌, ◌≤◌, nat_lt, if◌then◌else◌, List, [], ◌∷◌, Option, Some}
+use Rattle.std.proofs.Common.{slice_index, refl, sym, subst, ◌∙◌}
 use Rattle.std.proofs.lemmas.Bool.{lt-ltb, le-ltb}
 use Rattle.std.proofs.lemmas.List.{append-nil}
 use Rattle.pip_base.specs.declared.outcome.Outcome.{Outcome}
 use Rattle.pip_base.specs.Memory.{Memory}
 use Rattle.pip_cpu.specs.Made.{Made}
 use Rattle.pip_io.specs.Taken.{plain}
-use Rattle.pip_model.specs.Acts.{Act, Makes, after_acts, text_of}
+use Rattle.pip_model.specs.Acts.{Act, Makes, after_acts}
 use Rattle.pip_model.specs.Events as E
 use Rattle.pip_model.specs.Port.{Follows}
 use Rattle.pip_model.specs.Turn.{turn, turn_end}
@@ -26,42 +26,33 @@ use Rattle.pip_every.proofs.Unseen.{IsBut, acts_same, end_same, hostile_same, ot
 -- frames and processors that stand for a world stand for one that differs in its caches
 but_stands : (n : Memory) (cs : List (Option Occupant)) (v w : World) → IsBut v w → StandsFor n cs w
     → StandsFor n cs v
-but_stands n cs v w b s = subst (StandsFor n cs) (other w v (record { tree = sym b.tree; cpus = sym b.cpus }))
+but_stands n cs v w b s = rw (← other w v (record { tree = sym b.tree; cpus = sym b.cpus }))
     (bare_with n cs w v.caches s)
 
 -- and a machine that is at a world is at one that differs in its caches
 but_at : (q : State) (v w : World) → IsBut v w → StandsAs q w → IsAtWorld q v
-but_at q v w b s = subst (λ ks. StandsAs q (record v { caches = ks })) s.caches
-    (subst (StandsAs q) (sym (other v w b)) s)
+but_at q v w b s = rw s.caches at (subst (StandsAs q) (sym (other v w b)) s)
 
 pub turn_chosen : (g : Scope) (m : Moment) (k : ℕ) → k < g.cpus → choice_acts g m k ≡ turn m.world k 0
-turn_chosen g m k lt = ap (λ b. if b then turn m.world k 0
-    else if nat_lt m.turns g.from then []
-    else Makes (E.Raise (slice_index g.lines (k - g.cpus))) ∷ []) (lt-ltb k g.cpus lt)
+turn_chosen g m k lt = rw (lt-ltb k g.cpus lt)
 
 line_chosen : (g : Scope) (m : Moment) (k : ℕ) → g.cpus ≤ k → choice_acts g m k
     ≡ (if nat_lt m.turns g.from then [] else Makes (E.Raise (slice_index g.lines (k - g.cpus))) ∷ [])
-line_chosen g m k le = ap (λ b. if b then turn m.world k 0
-    else if nat_lt m.turns g.from then []
-    else Makes (E.Raise (slice_index g.lines (k - g.cpus))) ∷ []) (le-ltb k g.cpus le)
+line_chosen g m k le = rw (le-ltb k g.cpus le)
 
 pub raise_chosen : (g : Scope) (m : Moment) (k : ℕ) → g.cpus ≤ k → g.from ≤ m.turns
     → choice_acts g m k ≡ Makes (E.Raise (slice_index g.lines (k - g.cpus))) ∷ []
-raise_chosen g m k le open_now = line_chosen g m k le ∙
-    ap (λ b. if b then [] else Makes (E.Raise (slice_index g.lines (k - g.cpus))) ∷ []) (le-ltb m.turns g.from open_now)
+raise_chosen g m k le open_now = rw (line_chosen g m k le, le-ltb m.turns g.from open_now)
 
 none_chosen : (g : Scope) (m : Moment) (k : ℕ) → g.cpus ≤ k → m.turns < g.from → choice_acts g m k ≡ []
-none_chosen g m k le early = line_chosen g m k le ∙
-    ap (λ b. if b then [] else Makes (E.Raise (slice_index g.lines (k - g.cpus))) ∷ []) (lt-ltb m.turns g.from early)
+none_chosen g m k le early = rw (line_chosen g m k le, lt-ltb m.turns g.from early)
 
 pub same_turns : (g : Scope) (m : Moment) (k : ℕ) → g.cpus ≤ k → turns_chosen g m k ≡ m.turns
-same_turns g m k le = ap (λ b. if b then turns_after g.from m.turns (turn_end m.world k) else m.turns)
-    (le-ltb k g.cpus le)
+same_turns g m k le = rw (le-ltb k g.cpus le)
 
 pub more_turns : (g : Scope) (m : Moment) (k : ℕ) → k < g.cpus
     → turns_chosen g m k ≡ turns_after g.from m.turns (turn_end m.world k)
-more_turns g m k lt = ap (λ b. if b then turns_after g.from m.turns (turn_end m.world k) else m.turns)
-    (lt-ltb k g.cpus lt)
+more_turns g m k lt = rw (lt-ltb k g.cpus lt)
 
 -- before its time a line changes nothing, and shows nothing
 pub nothing_chosen : (g : Scope) (m : Moment) (k : ℕ) → g.cpus ≤ k → m.turns < g.from
@@ -69,16 +60,15 @@ pub nothing_chosen : (g : Scope) (m : Moment) (k : ℕ) → g.cpus ≤ k → m.t
 nothing_chosen g m k le early =
     let none = none_chosen g m k le early in
     let f : List Act → ℕ → Moment = λ acts n. record { world = after_acts m.world acts; turns = n } in (
-      ap (λ v. f v (turns_chosen g m k)) none ∙ ap (λ v. f [] v) (same_turns g m k le),
-      ap text_of none,
+      rw (none, same_turns g m k le),
+      rw none,
     )
 
 -- a machine that stands for the world after the acts of a choice, from a world with other caches
 at_after : (g : Scope) (m : Moment) (k : ℕ) (q : State) (v : World) (acts : List Act) → IsBut m.world v
     → choice_acts g m k ≡ acts → StandsAs q (after_acts v acts) → IsAtWorld q (moment_after g m k).world
 at_after g m k q v acts b are s =
-    subst (λ es. IsAtWorld q (after_acts m.world es)) (sym are)
-    (but_at q (after_acts m.world acts) (after_acts v acts) (acts_same acts m.world v b) s)
+    rw are (but_at q (after_acts m.world acts) (after_acts v acts) (acts_same acts m.world v b) s)
 
 bare : (m : Moment) (p : State) → IsBut m.world (record m.world { caches = p.caches })
 bare m p = record { tree = refl; cpus = refl }
@@ -92,14 +82,13 @@ pub chosen_raise : (g : Scope) (m : Moment) (k : ℕ) (p q : State) (turns line 
     → g.cpus ≤ k → g.from ≤ turns → turns ≡ m.turns → line ≡ slice_index g.lines (k - g.cpus) → label ≡ []
     → Follows (StandsAs p) (StandsAs q) (E.Raise line) o → IsAtWorld p m.world → HasChosen g m k q turns label
 chosen_raise g m k p q turns line label o le open_now same is none follows at =
-    let open_at : g.from ≤ m.turns = subst (λ v. g.from ≤ v) same open_now in
-    let are : choice_acts g m k ≡ Makes (E.Raise line) ∷ [] = raise_chosen g m k le open_at ∙
-    ap (λ v. Makes (E.Raise v) ∷ []) (sym is) in
+    let open_at : g.from ≤ m.turns = rw (← same) open_now in
+    let are : choice_acts g m k ≡ Makes (E.Raise line) ∷ [] = rw (raise_chosen g m k le open_at, ← is) in
     record {
       world = at_after g m k q (record m.world { caches = p.caches }) (Makes (E.Raise line) ∷ []) (bare m p) are
           (follows (record m.world { caches = p.caches }) at).1;
-      turns_are = same ∙ sym (same_turns g m k le);
-      label_is = none ∙ sym (ap text_of are);
+      turns_are = cc (same_turns g m k le);
+      label_is = cc;
     }
 
 -- a processor had its turn
@@ -114,9 +103,8 @@ chosen_turn g m k p q turns after old new e lt same is none ended made =
     let (front, grew, whole) = made.text.sends in
     record {
       world = at_after g m k q v (turn v k 0) (bare m p) are made.world;
-      turns_are = is ∙ (ap (λ n. turns_after g.from n e) same ∙ (ap (turns_after g.from m.turns)
-          (ended ∙ sym (end_same m.world v k (bare m p))) ∙ sym (more_turns g m k lt)));
-      label_is = grew ∙ (ap (λ v. v ++ front) none ∙ (sym (append-nil front) ∙ (whole ∙ ap text_of (sym are))));
+      turns_are = rw (is, same, ended, ← end_same m.world v k (bare m p)) (sym (more_turns g m k lt));
+      label_is = rw (grew, none, ← append-nil front, whole, ← are);
     }
 
 -- what runs on a processor waited, or did a deed
@@ -130,8 +118,8 @@ chosen_from_menu g m k p q cpu d turns after old new same is none made =
     let are : hostile_acts m.world cpu d ≡ acts = hostile_same m.world v cpu d (bare m p) in
     let (front, grew, whole) = made.text.sends in
     record {
-      world = subst (λ es. IsAtWorld q (after_acts m.world es)) (sym are)
-          (but_at q (after_acts m.world acts) (after_acts v acts) (acts_same acts m.world v (bare m p)) made.world);
-      turns_are = is ∙ ap (λ n. turns_after g.scope.from n N.Ran) same;
-      label_is = grew ∙ (ap (λ x. x ++ front) none ∙ (sym (append-nil front) ∙ (whole ∙ ap text_of (sym are))));
+      world = rw are (but_at q (after_acts m.world acts) (after_acts v acts) (acts_same acts m.world v (bare m p))
+          made.world);
+      turns_are = rw (is, same);
+      label_is = rw (grew, none, ← append-nil front, whole, ← are);
     }

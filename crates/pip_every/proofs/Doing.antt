@@ -1,13 +1,11 @@
 -- The acts of what runs on a processor: it waits for a line, or does a deed.
-use Rattle.std.proofs.Common.{◌≡◌, refl, ℕ, sym, ap, ◌∙◌, subst, [], ◌∷◌, Option, None, Some}
+use Rattle.std.proofs.Common.{◌≡◌, refl, ℕ, sym, ap, ◌∙◌, subst, Option, Some}
 use Rattle.std.specs.Prelude.{Result}
 use Rattle.pip_base.specs.declared.outcome.Outcome.{Outcome}
 use Rattle.pip_base.specs.declared.outcome.Outcome.TheVariants as O
 use Rattle.pip_cpu.proofs.Makings.{after_event, line_alone}
-use Rattle.pip_cpu.specs.Made.{Made, MadeOrCut}
+use Rattle.pip_cpu.specs.Made.{MadeOrCut}
 use Rattle.pip_io.specs.Taken.{Taken, Wrote}
-use Rattle.pip_io.proofs.Taken.{Appends-nil}
-use Rattle.pip_model.specs.Acts.{Makes}
 use Rattle.pip_model.specs.Events as E
 use Rattle.pip_model.specs.Turn.{moved_line, outcome_of, world_of}
 use Rattle.pip_model.specs.Worlds.{World}
@@ -26,7 +24,7 @@ module _ {T X : Type 0} (r : Result T X) (S : World → Type 0) (old new : Taken
       → Wrote r old new (deed_line cpu d o) → MadeOrCut r S old new w (deed_acts w cpu d)
   deed_done d o h s = after_event S old new w r (deed_event cpu d) _
       (line_alone S old new (world_of w (deed_event cpu d)) r _ h.1
-      (subst (λ p. Wrote r old new (deed_line cpu d p)) h.0 s))
+      (rw (← h.0) s))
 
   pub line_came : (d : Option Deed) (o : Outcome) (f to k : ℕ) → o ≡ O.Switched f to k
       → (o ≡ outcome_of w (E.Poll cpu)) × S (world_of w (E.Poll cpu)) → Wrote r old new (moved_line 0 cpu o)
@@ -34,8 +32,8 @@ module _ {T X : Type 0} (r : Result T X) (S : World → Type 0) (old new : Taken
   line_came d o f to k i h s =
       let v = world_of w (E.Poll cpu) in
       let line = subst (λ p. Wrote r old new (moved_line 0 cpu p)) i s in
-      after_event S old new w r (E.Poll cpu) _ (subst (λ p. MadeOrCut r S old new v (acts_after_line v cpu d p))
-      (sym i ∙ h.0) (line_alone S old new v r (moved_line 0 cpu (O.Switched f to k)) h.1 line))
+      after_event S old new w r (E.Poll cpu) _ (rw (← h.0, i)
+      (line_alone S old new v r (moved_line 0 cpu (O.Switched f to k)) h.1 line))
 
   pub did : (d : Deed) (o : Outcome) → ((f to k : ℕ) → o ≡ O.Switched f to k → ⊥) → o ≡ outcome_of w (E.Poll cpu)
       → MadeOrCut r S old new (world_of w (E.Poll cpu)) (deed_acts (world_of w (E.Poll cpu)) cpu d)
@@ -43,4 +41,4 @@ module _ {T X : Type 0} (r : Result T X) (S : World → Type 0) (old new : Taken
   did d o n e h =
       let v = world_of w (E.Poll cpu) in
       let same = ap (λ p. acts_after_line v cpu (Some d) p) (sym e) ∙ no_line v cpu d o n in
-      after_event S old new w r (E.Poll cpu) _ (subst (λ es. MadeOrCut r S old new v es) (sym same) h)
+      after_event S old new w r (E.Poll cpu) _ (rw same h)

@@ -1,9 +1,8 @@
 -- What a key tells of the moments that have it.
 use Rattle.std.proofs.Common.{◌≡◌, ℕ, ◌≤◌, List, [], ◌∷◌, ◌++◌, length, drop, take, ◌-◌}
-use Rattle.std.proofs.Common.{Option, Result, Ok, Err, IfOk, slice_index, sym, ap, ap₂, subst}
-use Rattle.std.proofs.Common.{◌∙◌, arith}
+use Rattle.std.proofs.Common.{Option, Result, Ok, Err, IfOk, slice_index, sym, ap₂, subst}
+use Rattle.std.proofs.Common.{arith}
 use Rattle.std.proofs.Math.Logic.{∥∥₁_elim}
-use Rattle.std.proofs.Props.{props}
 use Rattle.std.proofs.Math.Nat.{ℕ_set}
 use Rattle.std.proofs.lemmas.List.{take_rest}
 use Rattle.pip_base.specs.Memory.{IsMemory, Memory}
@@ -42,12 +41,12 @@ parts first g key m shape k =
       begins = record {
         run = all_may_run m.world k.stands.sound;
         count_is = k.cpus;
-        whole = ap (λ v. drop 1 v) k.whole;
+        whole = rw k.whole;
       };
       places = written.0;
       same = written.1;
-      turns = ap (λ v. slice_index v 0) k.whole;
-      some = subst (λ v. 1 ≤ length v) (sym k.whole) some;
+      turns = rw k.whole;
+      some = rw k.whole some;
     }
 
 a_cache_each : (p : State) → length p.caches ≡ length p.cpus
@@ -65,8 +64,7 @@ key_begins : {first : Memory} {g : Scope} {key : List ℕ} {m : Moment} {n : ℕ
     → (k : IsKeyOf first g key m) → n ≡ g.cpus
     → StartsWithAll (take (length key - 1) (drop 1 key)) n m.world.cpus (changes first k.memory)
 key_begins {first} {g} {key} {m} {n} shape k same =
-    subst (λ v. StartsWithAll v n m.world.cpus (changes first k.memory)) (sym (take_rest key 1))
-    (subst (λ v. StartsWithAll (drop 1 key) v m.world.cpus (changes first k.memory)) (sym same)
+    rw (take_rest key 1) (subst (λ v. StartsWithAll (drop 1 key) v m.world.cpus (changes first k.memory)) (sym same)
     (parts first g key m shape k).begins)
 
 -- so they can be read
@@ -91,12 +89,11 @@ module _ {first : Memory} {g : Scope} {key : List ℕ} {m : Moment} {n : ℕ} {c
       let h : HasParts first key g.cpus m k.memory = parts first g key m shape k in
       let r = was_read in
       record {
-        places = subst (λ v. ArePlaces (length first) v) (sym r.1) h.places;
-        count = ap length r.0 ∙ k.cpus;
+        places = rw r.1 h.places;
+        count = rw (r.0, k.cpus);
         world = record {
           world = m.world;
-          stands = subst (λ v. StandsFor (rewritten first v) cpus m.world) (sym r.1)
-              (subst (λ v. StandsFor v cpus m.world) (sym h.same)
+          stands = rw r.1 (subst (λ v. StandsFor v cpus m.world) (sym h.same)
               (subst (λ v. StandsFor k.memory v m.world) (sym r.0) k.stands));
         };
       }
@@ -110,7 +107,7 @@ module _ {first : Memory} {g : Scope} {key : List ℕ} {m : Moment} {n : ℕ} {c
         memory = k.memory;
         frames = k.frames;
         are = r.1;
-        whole = ap (λ v. rewritten first v) r.1 ∙ h.same;
+        whole = rw (r.1, h.same);
       }
 
   -- a machine that was taken there is at the moment
@@ -119,12 +116,11 @@ module _ {first : Memory} {g : Scope} {key : List ℕ} {m : Moment} {n : ℕ} {c
   moved_to p q count memory runs emptied =
       let h : HasParts first key g.cpus m k.memory = parts first g key m shape k in
       let r = was_read in
-      let memory_is : q.memory ≡ k.memory = memory ∙ (ap (λ v. rewritten first v) r.1 ∙ h.same) in
-      let cpus_are : q.cpus ≡ m.world.cpus = runs ∙ r.0 in
+      let memory_is : q.memory ≡ k.memory = rw (memory, r.1, h.same) in
+      let cpus_are : q.cpus ≡ m.world.cpus = cc (r.0) in
       rewound q.memory q.cpus p.caches q.caches emptied
-      (a_cache_each p ∙ (sym count ∙ (sym k.cpus ∙ ap length (sym cpus_are)))) m.world
-      (subst (λ v. StandsFor v q.cpus m.world) (sym memory_is)
-      (subst (λ v. StandsFor k.memory v m.world) (sym cpus_are) k.stands))
+      (rw (a_cache_each p, ← count, ← k.cpus, ← cpus_are)) m.world
+      (rw memory_is (subst (λ v. StandsFor k.memory v m.world) (sym cpus_are) k.stands))
 
 -- the moment after a choice has the key of the machine that made it
 pub keyed : (first : Memory) (g : Scope) (n : Moment) (shown : List ℕ) (q : State) (turns : ℕ) (label key : List ℕ)
@@ -135,11 +131,10 @@ keyed first g n shown q turns label key h frames count is =
     let cpus_are : n.world.cpus ≡ q.cpus = stands.shows.cpus in
     record {
       memory = q.memory;
-      stands = subst (λ v. StandsFor q.memory v n.world) (sym cpus_are) stands;
+      stands = rw (← cpus_are) at stands;
       frames = frames;
-      cpus = ap length cpus_are ∙ count;
-      whole = is ∙ (ap (λ v. key_words first v q.cpus q.memory) h.turns_are ∙
-          ap (λ v. key_words first n.turns v q.memory) (sym cpus_are));
+      cpus = rw (cpus_are, count);
+      whole = rw (is, h.turns_are, ← cpus_are);
     }
 
 -- the moment at a world has the key that was added of a machine that stands for it
@@ -147,15 +142,14 @@ pub begun : {first : Memory} {g : Scope} {p q : State} {start key : List ℕ} (w
     → length q.memory ≡ length first → length q.cpus ≡ g.cpus → start ≡ []
     → key ≡ start ++ key_words first 0 q.cpus q.memory → IsKeyOf first g key (moment_at w)
 begun {first} {g} {p} {q} w stands same frames count none is =
-    let s : StandsAs q w = subst (λ v. StandsAs v w) (sym same) stands in
+    let s : StandsAs q w = rw same stands in
     let cpus_are : w.cpus ≡ q.cpus = s.bare.shows.cpus in
     record {
       memory = q.memory;
-      stands = subst (λ v. StandsFor q.memory v w) (sym cpus_are) s.bare;
+      stands = rw (← cpus_are) at s.bare;
       frames = frames;
-      cpus = ap length cpus_are ∙ count;
-      whole = is ∙ (ap (λ v. v ++ key_words first 0 q.cpus q.memory) none ∙
-          ap (λ v. key_words first 0 v q.memory) (sym cpus_are));
+      cpus = rw (cpus_are, count);
+      whole = rw (is, none, ← cpus_are);
     }
 
 -- scopes with the same processors, lines and first turn are one
@@ -163,7 +157,7 @@ pub scope_is : (a b : ℕ) (ls ms : List ℕ) (f h : ℕ) → a ≡ b → ls ≡
     → ◌≡◌ {A = Scope} (record { cpus = a; lines = ls; from = f }) (record { cpus = b; lines = ms; from = h })
 scope_is a b ls ms f h one two three =
     let s : ℕ → List ℕ → ℕ → Scope = λ x xs y. record { cpus = x; lines = xs; from = y } in
-    ap (λ v. s v ls f) one ∙ (ap (λ v. s b v f) two ∙ ap (λ v. s b ms v) three)
+    rw (one, two, three)
 
 -- and so are menus
 pub menu_is : (s t : Scope) (ds es : List May) → s ≡ t → ds ≡ es

@@ -1,6 +1,6 @@
 -- The test of a state, as a machine makes it.
 use Rattle.std.proofs.Common.{◌≡◌, ℕ, zero, suc, ◌+◌, ◌≤◌, ◌&&◌, ◌||◌, not, Bool, true, false, List, [], ◌∷◌, refl}
-use Rattle.std.proofs.Common.{sym, ap, ◌∙◌, arith, drop, length, Option, Some}
+use Rattle.std.proofs.Common.{sym, arith, drop, length, Option, Some}
 use Rattle.std.specs.Prelude.{slice_get}
 use Rattle.pip_base.specs.declared.outcome.Outcome.{Outcome}
 use Rattle.pip_base.specs.declared.outcome.Outcome.TheVariants as O
@@ -22,13 +22,11 @@ module _ (p : State) (w : World) (s : StandsAs p w) (cpu : ℕ) where
   -- a line of a menu is of what runs there
   pub its_here : (d : May) (o : Option ℕ) → o ≡ name_on w cpu → (b : Bool) → b ≡ menus.is_its 1 o d
       → b ≡ is_its w.tree.root.name (name_on w cpu) d
-  its_here d o is b e = e ∙ ap (λ n. menus.is_its 1 n d) is
-      ∙ ap (λ r. menus.is_its r (name_on w cpu) d) (sym (root_is_one w.tree s.bare.sound.tree))
+  its_here d o is b e = rw (e, is, ← root_is_one w.tree s.bare.sound.tree)
 
   pub hostile_here : (ds : List May) (o : Option ℕ) → o ≡ name_on w cpu → (b : Bool) → b ≡ menus.is_hostile 1 o ds
       → b ≡ menus.is_hostile w.tree.root.name (name_on w cpu) ds
-  hostile_here ds o is b e = e ∙ ap (λ n. menus.is_hostile 1 n ds) is
-      ∙ ap (λ r. menus.is_hostile r (name_on w cpu) ds) (sym (root_is_one w.tree s.bare.sound.tree))
+  hostile_here ds o is b e = rw (e, is, ← root_is_one w.tree s.bare.sound.tree)
 
 -- a deed is a load that is answered, or reads no word that is left out
 abbrev pub deed_is : List ℕ → (ℕ → ℕ → Bool) → World → ℕ → Deed → Bool
@@ -37,19 +35,17 @@ deed_is own blind w cpu d = deed_answers w cpu d || reads_outside own blind w (d
 module _ (own : List ℕ) (blind : ℕ → ℕ → Bool) (w : World) (cpu : ℕ) (d : Deed) (va : ℕ) (z : Size)
     (is : d ≡ D.Load va z) (b : Bool) (e : b ≡ deed_answers w cpu (D.Load va z)) where
   pub load_answered : b ≡ true → b ≡ deed_is own blind w cpu d
-  load_answered on = on ∙ sym (ap (deed_is own blind w cpu) is
-      ∙ ap (λ x. x || reads_outside own blind w (E.Load cpu va z)) (sym e ∙ on))
+  load_answered on = cc
 
   pub load_faults : b ≡ false → reads_outside own blind w (E.Load cpu va z) ≡ deed_is own blind w cpu d
-  load_faults off = sym (ap (deed_is own blind w cpu) is
-      ∙ ap (λ x. x || reads_outside own blind w (E.Load cpu va z)) (sym e ∙ off))
+  load_faults off = cc
 
 -- the rest of a list from an element on
 drop_at : {A : Type 0} (xs : List A) (k : ℕ) (x : A) → slice_get xs k ≡ Some x → drop k xs ≡ x ∷ drop (k + 1) xs
 drop_at [] k x e = cc
-drop_at (y ∷ ys) zero x e = let same : y ≡ x = cc in ap (λ z. z ∷ ys) same
+drop_at (y ∷ ys) zero x e = let same : y ≡ x = cc in rw same
 drop_at (y ∷ ys) (suc k) x e = let n : suc k + 1 ≡ suc (k + 1) = omega arith in
-    drop_at ys k x e ∙ ap (λ m. x ∷ drop m (y ∷ ys)) (sym n)
+    cc (drop_at ys k x e)
 
 module _ (own : List ℕ) (blind : ℕ → ℕ → Bool) (w : World) (cpu : ℕ) (ds : List May) (k : ℕ) (d : May)
     (at : slice_get ds k ≡ Some d) (b : Bool)
@@ -57,23 +53,22 @@ module _ (own : List ℕ) (blind : ℕ → ℕ → Bool) (w : World) (cpu : ℕ)
     || (deed_answers w cpu d.deed || reads_outside own blind w (deed_event cpu d.deed))))
     (before : deeds_read_outside own blind w cpu ds ≡ deeds_read_outside own blind w cpu (drop k ds)) where
   next : deeds_read_outside own blind w cpu ds ≡ (b && deeds_read_outside own blind w cpu (drop (k + 1) ds))
-  next = before ∙ ap (deeds_read_outside own blind w cpu) (drop_at ds k d at)
-      ∙ ap (λ c. c && deeds_read_outside own blind w cpu (drop (k + 1) ds)) (sym is)
+  next = rw (before, drop_at ds k d at, ← is)
 
   pub deed_reads : b ≡ false → false ≡ deeds_read_outside own blind w cpu ds
   unfolding next
-  deed_reads e = sym (next ∙ ap (λ c. c && deeds_read_outside own blind w cpu (drop (k + 1) ds)) e)
+  deed_reads e = sym (rw (next, e))
 
   pub deed_passes : b ≡ true
       → deeds_read_outside own blind w cpu ds ≡ deeds_read_outside own blind w cpu (drop (k + 1) ds)
   unfolding next
-  deed_passes e = next ∙ ap (λ c. c && deeds_read_outside own blind w cpu (drop (k + 1) ds)) e
+  deed_passes e = rw (next, e)
 
 pub drop_all : {A : Type 0} (xs : List A) (k : ℕ) → length xs ≤ k → drop k xs ≡ []
 drop_all [] zero l = refl
 drop_all [] (suc k) l = refl
-drop_all (x ∷ xs) zero l = absurd (omega (arith, l))
-drop_all (x ∷ xs) (suc k) l = drop_all xs k (omega (arith, l))
+drop_all (x ∷ xs) zero l = absurd (omega arith)
+drop_all (x ∷ xs) (suc k) l = drop_all xs k (omega arith)
 
 -- ---- the parts of a test
 
@@ -103,21 +98,18 @@ module _ (own : List ℕ) (blind : ℕ → ℕ → Bool) (ds : List May) (w : Wo
   small = if_one_runs (runs_on w cpu) (is_confined own w.tree)
 
   pub poll_off : polls ≡ false → false ≡ hostile_looks_away own blind ds w cpu
-  poll_off e = sym (ap (λ z. z && ((not vain || deeds) && small)) e)
+  poll_off e = cc
 
   module _ (e : polls ≡ true) where
     pub large : small ≡ false → false ≡ hostile_looks_away own blind ds w cpu
-    large f = sym (ap (λ z. z && ((not vain || deeds) && small)) e ∙ ap (λ z. (not vain || deeds) && z) f
-        ∙ and_off (not vain || deeds))
+    large f = cc (and_off (not vain || deeds))
 
     module _ (f : small ≡ true) where
       pub by_deeds : deeds ≡ true → true ≡ hostile_looks_away own blind ds w cpu
-      by_deeds h = sym (ap (λ z. z && ((not vain || deeds) && small)) e ∙ ap (λ z. (not vain || deeds) && z) f
-          ∙ ap (λ z. (not vain || z) && true) h ∙ or_on vain)
+      by_deeds h = cc (or_on vain)
 
       pub by_poll : deeds ≡ false → not vain ≡ hostile_looks_away own blind ds w cpu
-      by_poll h = sym (ap (λ z. z && ((not vain || deeds) && small)) e ∙ ap (λ z. (not vain || deeds) && z) f
-          ∙ ap (λ z. (not vain || z) && true) h ∙ or_off vain)
+      by_poll h = cc (or_off vain)
 
 pub not_done : (o : Outcome) → (o ≡ O.Done → ⊥) → is_vain o ≡ false
 not_done O.Done n = absurd (n refl)

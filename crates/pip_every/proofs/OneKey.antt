@@ -1,17 +1,16 @@
 -- A key stands for one moment, but for its caches and the order of its nodes, and each moment has one.
 use Rattle.std.proofs.Common.{◌≡◌, ℕ, suc, ◌<◌, List, [], ◌∷◌, ◌++◌, length, drop, Option, Some, None}
-use Rattle.std.proofs.Common.{slice_index, refl, sym, ap, ap₂, subst, ◌∙◌, arith, append_assoc}
+use Rattle.std.proofs.Common.{slice_index, refl, sym, ap₂, ◌∙◌, arith, append_assoc}
 use Rattle.pip_base.specs.Memory.{Memory}
 use Rattle.pip_base.proofs.Memory.{same_words}
 use Rattle.pip_journal.specs.Changes.{changes}
 use Rattle.pip_model.specs.Layout.{HasSameLayout, LaysOut}
 use Rattle.pip_model.specs.Tree.{Tree}
 use Rattle.pip_model.specs.declared.processors.Occupant.{Occupant}
-use Rattle.pip_switch.specs.Rewinding.{rewritten}
 use Rattle.pip_model.proofs.Frames.Same.{frames-same}
 use Rattle.pip_search.specs.Summary.{HasOneKey, IsTold, Witness}
 use Rattle.pip_search.specs.declared.searching.Extent.{Extent}
-use Rattle.pip_every.specs.Keys.{key_words, model_of, processor_words, running_words}
+use Rattle.pip_every.specs.Keys.{model_of, processor_words, running_words}
 use Rattle.pip_every.specs.Menus.{Menu, menu_model}
 use Rattle.pip_every.specs.Moments.{Moment, Scope}
 use Rattle.pip_every.specs.Laws.{KeysTellMoments, MomentsHaveOneKey}
@@ -22,30 +21,28 @@ use Rattle.pip_every.proofs.Words.{read_some}
 -- trees with the same layout have one memory
 pub one_memory : (t u : Tree) (m n : Memory) → HasSameLayout t u → LaysOut t m → LaysOut u n → m ≡ n
 one_memory t u m n same a b =
-    same_words m n a.shape b.shape (a.count ∙ (same.frames ∙ sym b.count))
+    same_words m n a.shape b.shape (rw (a.count, same.frames, ← b.count))
     (λ f i fi ii.
-    let ft : f < t.frames = omega (arith, fi, a.count) in
-    let fu : f < u.frames = omega (arith, ft, same.frames) in
-    a.word f i ft ii ∙ (same.word f i ft ii ∙ sym (b.word f i fu ii)))
+    let ft : f < t.frames = omega arith in
+    let fu : f < u.frames = omega arith in
+    rw (a.word f i ft ii, same.word f i ft ii, ← b.word f i fu ii))
 
 pub moments_have_one_key : MomentsHaveOneKey
 moments_have_one_key first g m n key other turns cpus trees k l =
     let memory : k.memory ≡ l.memory = one_memory m.world.tree n.world.tree k.memory l.memory trees
     k.stands.shows.laid l.stands.shows.laid in
-    k.whole ∙ (ap (λ v. key_words first v m.world.cpus k.memory) turns ∙
-    (ap (λ v. key_words first n.turns v k.memory) cpus ∙
-    (ap (λ v. key_words first n.turns n.world.cpus v) memory ∙ sym l.whole)))
+    rw (k.whole, turns, cpus, memory, ← l.whole)
 
 -- words begin with those of one processor alone
 read_once : (ws : List ℕ) (o p : Option Occupant) (rest more : List ℕ) → StartsWithOne ws o rest
     → StartsWithOne ws p more → (o ≡ p) × (rest ≡ more)
-read_once ws None None rest more a b = (refl, ap (λ v. drop 1 v) (sym a.whole ∙ b.whole))
+read_once ws None None rest more a b = (refl, cc (a.whole, b.whole))
 read_once ws None (Some q) rest more a b =
-    let e : 0 ≡ q.name = ap (λ v. slice_index v 0) (sym a.whole ∙ b.whole) in absurd (omega (arith, e, b.runs.least))
+    let e : 0 ≡ q.name = cc (a.whole, b.whole) in absurd (omega arith)
 read_once ws (Some r) p rest more a b =
     let some : slice_index ws 0 ≡ 0 → ⊥ = λ e.
-    let same : slice_index ws 0 ≡ r.name = ap (λ v. slice_index v 0) a.whole in
-    omega (arith, e, same, a.runs.least) in
+    let same : slice_index ws 0 ≡ r.name = rw a.whole in
+    omega arith in
     let at = read_some ws some (Some r) rest a in
     let there = read_some ws some p more b in
     (sym at.0 ∙ there.0, sym at.1 ∙ there.1)
@@ -54,9 +51,9 @@ pub all_once : (os ps : List (Option Occupant)) (ws : List ℕ) (n : ℕ) (rest 
     → StartsWithAll ws n ps more → (os ≡ ps) × (rest ≡ more)
 all_once [] [] ws n rest more a b = (refl, sym a.whole ∙ b.whole)
 all_once [] (p ∷ ps) ws n rest more a b =
-    let e : suc (length ps) ≡ 0 = b.count_is ∙ sym a.count_is in absurd (omega (arith, e))
+    let e : suc (length ps) ≡ 0 = b.count_is ∙ sym a.count_is in absurd (omega arith)
 all_once (o ∷ os) [] ws n rest more a b =
-    let e : suc (length os) ≡ 0 = a.count_is ∙ sym b.count_is in absurd (omega (arith, e))
+    let e : suc (length os) ≡ 0 = a.count_is ∙ sym b.count_is in absurd (omega arith)
 all_once (o ∷ os) (p ∷ ps) ws n rest more a b =
     let once : (o ≡ p) × (processor_words os ++ rest ≡ processor_words ps ++ more) =
     read_once ws o p (processor_words os ++ rest) (processor_words ps ++ more)
@@ -65,7 +62,7 @@ all_once (o ∷ os) (p ∷ ps) ws n rest more a b =
     let count : suc (length ps) ≡ suc (length os) = b.count_is ∙ sym a.count_is in
     let others : (os ≡ ps) × (rest ≡ more) = all_once os ps (processor_words os ++ rest) (length os) rest more
     (record { run = a.run.1; count_is = refl; whole = refl })
-    (record { run = b.run.1; count_is = omega (arith, count); whole = once.1 }) in
+    (record { run = b.run.1; count_is = omega arith; whole = once.1 }) in
     (ap₂ (λ x xs. x ∷ xs) once.0 others.0, others.1)
 
 pub keys_tell_moments : KeysTellMoments
@@ -75,12 +72,12 @@ keys_tell_moments first g key m n shape k l =
     let once : (m.world.cpus ≡ n.world.cpus) × (changes first k.memory ≡ changes first l.memory) =
     all_once m.world.cpus n.world.cpus (drop 1 key) g.cpus (changes first k.memory) (changes first l.memory)
     a.begins b.begins in
-    let memory : k.memory ≡ l.memory = sym a.same ∙ (ap (λ v. rewritten first v) once.1 ∙ b.same) in
+    let memory : k.memory ≡ l.memory = rw (← a.same, once.1, b.same) in
     record {
       turns = sym a.turns ∙ b.turns;
       cpus = once.0;
       trees = frames-same m.world.tree n.world.tree l.memory k.stands.sound.tree l.stands.sound.tree
-          (subst (λ v. LaysOut m.world.tree v) memory k.stands.shows.laid) l.stands.shows.laid;
+          (rw (← memory) k.stands.shows.laid) l.stands.shows.laid;
     }
 
 -- so no moment has two keys
@@ -92,4 +89,4 @@ one_key first g key other m k l =
 pub told_at : (first : Memory) (s t : Menu) (m : Moment) (most limit : ℕ) (ws : List Witness) (count : ℕ) (v : Extent)
     → s ≡ t → IsTold (menu_model first s) m most limit ws count v → IsTold (menu_model first t) m most limit ws count v
 told_at first s t m most limit ws count v same h =
-    subst (λ x. IsTold (menu_model first x) m most limit ws count v) same h
+    rw (← same) h

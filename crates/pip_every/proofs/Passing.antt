@@ -1,6 +1,6 @@
 -- What is said of whether all outside looks away, from the visits that pass and the first that doesn't.
 use Rattle.std.proofs.Common.{◌≡◌, ℕ, ◌+◌, ◌<◌, Bool, inl, inr, true, false, List, length, Some, slice_get}
-use Rattle.std.proofs.Common.{Option, reverse, refl, sym, ap, subst, ◌∙◌, arith}
+use Rattle.std.proofs.Common.{Option, refl, arith}
 use Rattle.std.proofs.lemmas.Bool.{cases_lt}
 use Rattle.pip_away.specs.Blind.{LeftOut, is_left_out, leaves_out}
 use Rattle.pip_base.specs.Memory.{Memory}
@@ -8,7 +8,7 @@ use Rattle.pip_model.specs.Worlds.{World}
 use Rattle.pip_search.specs.Again.{HasClosed}
 use Rattle.pip_search.specs.Keys.{Keyed, key_of, visits_of}
 use Rattle.pip_search.specs.Reached.{AreChoices}
-use Rattle.pip_search.specs.Ways.{runs_of, way_to}
+use Rattle.pip_search.specs.Ways.{way_to}
 use Rattle.pip_search.specs.declared.searching.Extent.{Extent}
 use Rattle.pip_search.specs.declared.searching.Extent.TheVariants.{Closed, Stopped, Within}
 use Rattle.pip_search.specs.declared.searching.Search.{Search}
@@ -29,8 +29,8 @@ pub passes_more : (o : LeftOut) (g : Menu) (w : World) (n : ℕ) → PassesUpTo 
     → looks_away o.own (is_left_out o) g w n ≡ true → PassesUpTo o g w (n + 1)
 passes_more o g w n before here j low = elim (cases_lt j n) [
   | inl less ↦ before j less
-  | inr most ↦ let is : n ≡ j = omega (arith, most, low) in
-      subst (λ k. looks_away o.own (is_left_out o) g w k ≡ true) is here
+  | inr most ↦ let is : n ≡ j = omega arith in
+      simp (← is) here
 ]
 
 module _ (first : Memory) (o : LeftOut) (g : Menu) where
@@ -40,7 +40,7 @@ module _ (first : Memory) (o : LeftOut) (g : Menu) where
       → PassesUpTo o g m.world g.scope.cpus) → PassBefore first o g vs (n + 1)
   visit_more vs n before here j u m low at own = elim (cases_lt j n) [
     | inl less ↦ before j u m less at own
-    | inr most ↦ let is : j ≡ n = omega (arith, most, low) in here u m (ap (slice_get vs) (sym is) ∙ at) own
+    | inr most ↦ let is : j ≡ n = omega arith in here u m (rw (← is, at)) own
   ]
 
   module _ (start : List ℕ) (z : Search) (h : HasClosed (menu_model first g) start z) (s : Moment)
@@ -71,7 +71,7 @@ module _ (first : Memory) (o : LeftOut) (g : Menu) where
 -- what is said doesn't depend on the memory with which keys compare
 seen_rebased : (a b : Memory) (o : LeftOut) (g : Menu) (s : Moment) (cs : List ℕ) (k : ℕ) → IsSeenFirst a o g s cs k
     → IsSeenFirst b o g s cs k
-seen_rebased a b o g s cs k h = record { can = h.can; cpu = h.cpu; seen = h.seen; least = h.least; first = h.first }
+seen_rebased a b o g s cs k h = assumption
 
 said_rebased : (a b : Memory) (o : LeftOut) (g : Menu) (s : Moment) (end : Extent) (r : Away)
     → IsAwaySaid a o g s end r → IsAwaySaid b o g s end r
@@ -83,10 +83,12 @@ said_rebased a b o g s (Stopped depth) r h = h
 
 pub rebased_away : (a b : Memory) (o : LeftOut) (g t : Menu) (s : Moment) (end : Extent) (r : Option Away) → g ≡ t
     → IsAwayReply a o g s end r → IsAwayReply b o t s end r
-rebased_away a b o g t s end r same h = subst (λ u. IsAwayReply b o u s end r) same (record {
-  asked = λ on. let (x, (is, said)) = h.asked on in (x, (is, said_rebased a b o g s end x said));
-  none = h.none;
-})
+rebased_away a b o g t s end r same h = rw (← same)
+    (record {
+      asked = λ on. let (x, (is, said)) = h.asked on in (x, (is, said_rebased a b o g s end x said));
+      none
+          = h.none;
+    })
 
 -- ---- an answer is fixed
 
@@ -104,13 +106,13 @@ module _ (first : Memory) (o : LeftOut) (g : Menu) (s : Moment) where
       → (cs ≡ ds) × (k ≡ j)
   one_seen cs ds k j a b =
       let ways : cs ≡ ds = no_later_both cs ds (a.first ds j b.can b.cpu b.seen) (b.first cs k a.can a.cpu a.seen) in
-      let c : IsSeenFirst first o g s ds k = subst (λ es. IsSeenFirst first o g s es k) ways a in (
+      let c : IsSeenFirst first o g s ds k = rw (← ways) a in (
         ways,
         elim (cases_lt k j) [
           | inl less ↦ absurd (same_cpu ds k j c b less)
           | inr most ↦ elim (cases_lt j k) [
             | inl less ↦ absurd (same_cpu ds j k b c less)
-            | inr least ↦ omega (arith, most, least)
+            | inr least ↦ omega arith
           ]
         ],
       )
@@ -122,7 +124,7 @@ module _ (first : Memory) (o : LeftOut) (g : Menu) (s : Moment) where
   said_once (Closed depth) (No way cpu) Yes (cs, (is, h)) k = no_both cs cpu h k
   said_once (Closed depth) (No way cpu) (No other j) (cs, (is, h)) (ds, (also, k)) =
       let (ways, cpus) = one_seen cs ds cpu j h k in
-      (is ∙ ap (λ es. reverse (runs_of es)) ways ∙ sym also, cpus)
+      (rw (is, ways, ← also), cpus)
   said_once (Within depth) Unknown Unknown h k = tt
   said_once (Stopped depth) Unknown Unknown h k = tt
   said_once (Closed depth) Unknown b h k = absurd h

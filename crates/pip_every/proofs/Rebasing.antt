@@ -1,8 +1,7 @@
 -- What a search says of a moment doesn't depend on the memory with which its keys compare.
-use Rattle.std.proofs.Common.{◌≡◌, ℕ, List, length, refl, sym, ap, ◌∙◌}
+use Rattle.std.proofs.Common.{◌≡◌, ℕ, List, length, refl, sym}
 use Rattle.pip_base.specs.Memory.{IsMemory, Memory}
 use Rattle.pip_journal.specs.Changes.{changes}
-use Rattle.pip_switch.specs.Rewinding.{rewritten}
 use Rattle.pip_search.specs.Summary.{IsTold, Witness}
 use Rattle.pip_search.specs.declared.searching.Extent.{Extent}
 use Rattle.pip_every.specs.Keys.{IsKeyOf, key_words}
@@ -28,17 +27,15 @@ carried a b g key other n shape count p l =
     let y : HasParts a key g.cpus n l.memory = parts a g key n shape l in
     let once : (m.world.cpus ≡ n.world.cpus) × (changes a k.memory ≡ changes a l.memory) =
     all_once m.world.cpus n.world.cpus _ g.cpus (changes a k.memory) (changes a l.memory) x.begins y.begins in
-    let memory : k.memory ≡ l.memory = sym x.same ∙ (ap (λ v. rewritten a v) once.1 ∙ y.same) in
+    let memory : k.memory ≡ l.memory = rw (← x.same, once.1, y.same) in
     let here : p.two.memory ≡ k.memory = one_memory m.world.tree m.world.tree p.two.memory k.memory
     (record { frames = refl; word = λ f i fi ii. refl }) p.two.stands.shows.laid k.stands.shows.laid in
     record {
       memory = l.memory;
       stands = l.stands;
-      frames = l.frames ∙ count;
+      frames = cc (l.frames);
       cpus = l.cpus;
-      whole = p.two.whole ∙ (ap (λ v. key_words b v m.world.cpus p.two.memory) (sym x.turns ∙ y.turns) ∙
-          (ap (λ v. key_words b n.turns v p.two.memory) once.0 ∙
-          ap (λ v. key_words b n.turns n.world.cpus v) (here ∙ memory)));
+      whole = rw (p.two.whole, ← x.turns, y.turns, once.0, here, memory);
     }
 
 -- each moment with a key where a is the first memory has one where b is
@@ -46,7 +43,7 @@ pub has_partner : (a b : Memory) (g : Scope) (key : List ℕ) (m : Moment) → l
     → (other : List ℕ) × IsKeyOf b g other m
 has_partner a b g key m count k = (
   key_words b m.turns m.world.cpus k.memory,
-  record { memory = k.memory; stands = k.stands; frames = k.frames ∙ count; cpus = k.cpus; whole = refl },
+  record { memory = k.memory; stands = k.stands; frames = cc (k.frames); cpus = k.cpus; whole = refl },
 )
 
 -- so keys tell moments apart alike

@@ -1,5 +1,5 @@
 -- What is told of a state doesn't depend on the kind of keys that its system has.
-use Rattle.std.proofs.Common.{◌≡◌, ℕ, zero, suc, ◌+◌, ◌≤◌, List, [], ◌∷◌, length, Some, slice_get, refl, sym, ap, subst}
+use Rattle.std.proofs.Common.{◌≡◌, ℕ, zero, suc, ◌+◌, List, [], ◌∷◌, length, Some, slice_get, refl}
 use Rattle.std.proofs.Common.{◌∙◌}
 use Rattle.pip_search.specs.Naming.{AreDistinct}
 use Rattle.pip_search.specs.Summary.{AreCounted, HasAway, HasOneKey, HasOneMore, IsAmong, IsAway, IsEnd, IsTold}
@@ -39,7 +39,7 @@ module _ (m : Model) (K L : List ℕ → m.State → Type 0) where
   as_many [] [] h = refl
   as_many [] (o ∷ os) h = absurd h
   as_many (k ∷ ks) [] h = absurd h
-  as_many (k ∷ ks) (o ∷ os) h = ap suc (as_many ks os h.1)
+  as_many (k ∷ ks) (o ∷ os) h = rw (as_many ks os h.1)
 
   -- the partner of a key is at its place
   record IsPairedAt (os : List (List ℕ)) (j : ℕ) (key : List ℕ) : Type 0 where
@@ -53,9 +53,9 @@ module _ (m : Model) (K L : List ℕ → m.State → Type 0) where
   paired_at [] os j key h e = absurd cc
   paired_at (k ∷ ks) [] j key h e = absurd h
   paired_at (k ∷ ks) (o ∷ os) zero key h e =
-      let same : k ≡ key = cc in record { other = o; at = refl; partners = subst (λ v. ArePartners v o) same h.0 }
+      let same : k ≡ key = cc in record { other = o; at = refl; partners = rw (← same) h.0 }
   paired_at (k ∷ ks) (o ∷ os) (suc j) key h e =
-      let rest = paired_at ks os j key h.1 e in record { other = rest.other; at = rest.at; partners = rest.partners }
+      let rest = paired_at ks os j key h.1 e in search
 
   -- and the other way
   record IsPartnerAt (ks : List (List ℕ)) (j : ℕ) (other : List ℕ) : Type 0 where
@@ -70,9 +70,9 @@ module _ (m : Model) (K L : List ℕ → m.State → Type 0) where
   partner_at [] (o ∷ os) j other h e = absurd h
   partner_at (k ∷ ks) [] j other h e = absurd h
   partner_at (k ∷ ks) (o ∷ os) zero other h e =
-      let same : o ≡ other = cc in record { key = k; at = refl; partners = subst (λ v. ArePartners k v) same h.0 }
+      let same : o ≡ other = cc in record { key = k; at = refl; partners = rw (← same) h.0 }
   partner_at (k ∷ ks) (o ∷ os) (suc j) other h e =
-      let rest = partner_at ks os j other h.1 e in record { key = rest.key; at = rest.at; partners = rest.partners }
+      let rest = partner_at ks os j other h.1 e in search
 
   module _ (alike : TellAlike m K L) where
     -- each key of some state has a partner
@@ -95,7 +95,7 @@ module _ (m : Model) (K L : List ℕ → m.State → Type 0) where
         let q = y.partners in
         let same : y.key ≡ x.key = alike.one y.key x.key p.state
         (alike.back y.key name q.state p.state q.first q.second p.second) p.first in
-        distinct i j x.key x.at (y.at ∙ ap (λ v. Some v) same)
+        distinct i j x.key x.at (rw (y.at, same))
 
     -- what holds of a key holds of its partner
     module _ (s : m.State) (ks os : List (List ℕ)) (paired : ArePaired ks os) where
@@ -163,9 +163,9 @@ module _ (m : Model) (K L : List ℕ → m.State → Type 0) where
       ends : (most limit : ℕ) (v : Extent) → IsEnd (with_keys m K) s ks most limit v
           → IsEnd (with_keys m L) s os most limit v
       ends most limit (Closed depth) h =
-          (h.0, (subst (λ n. n ≤ limit) (sym (as_many ks os paired)) h.1.0, has_away depth h.1.1))
+          (h.0, (rw (as_many ks os paired) h.1.0, has_away depth h.1.1))
       ends most limit (Within depth) h =
-          (h.0, (subst (λ n. n ≤ limit) (sym (as_many ks os paired)) h.1.0, has_away depth h.1.1))
+          (h.0, (rw (as_many ks os paired) h.1.0, has_away depth h.1.1))
       ends most limit (Stopped depth) h = (h.0, (as_many ks os paired ∙ h.1.0, one_more (depth + 1) h.1.1))
 
     -- what is told with keys of the first kind is told with those of the second

@@ -15,9 +15,11 @@ use Rattle.pip_every.specs.Reading.{IsRunnable, MayRun}
 name_low : (w : World) → IsSoundWorld w → (q : ℕ) → In q (names_of (nodes w.tree)) → q < 2 ^ 20
 name_low w s q i =
     let (x, j, e) = In-map_from (λ x. x.name) q (nodes w.tree) i in
-    let h = page_small w.tree x.name s.tree x j
-    (In-append_left x.name (config x) (row_pages x) (name-config w.tree s.tree x j)) in
-    omega (arith, h, e, s.tree.boot_root.large)
+    omega (
+      arith,
+      page_small w.tree x.name s.tree x j
+          (In-append_left x.name (config x) (row_pages x) (name-config w.tree s.tree x j)),
+    )
 
 runnable : (w : World) → IsSoundWorld w → (i : ℕ) (r : Occupant) → runs_on w i ≡ Some r → IsRunnable r
 runnable w s i r e =

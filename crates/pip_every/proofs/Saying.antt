@@ -26,21 +26,20 @@ module _ {R : Type 0} (IsAnswer : List ℕ → R → Type 0) (lines : List (List
       → ((line : List ℕ) → slice_get lines i ≡ Some line → IsAnswer line r) → AreYet (said ++ r ∷ [])
   one_more_said said i r all count own j line x at is = elim (get-back said r j x is) [
     | inl old ↦ all j line x at old
-    | inr new ↦ subst (IsAnswer line) (sym new.1)
-        (own line (ap (slice_get lines) (sym (new.0 ∙ count)) ∙ at))
+    | inr new ↦ rw new.1 (own line (ap (slice_get lines) (sym (new.0 ∙ count)) ∙ at))
   ]
 
 -- as many classes as choices
 pub classes_count : (n : ℕ) → length (own_classes n) ≡ n
 classes_count zero = refl
-classes_count (suc n) = let e = classes_count n in simp length-append (omega (arith, e))
+classes_count (suc n) = let e = classes_count n in simp length-append (omega arith)
 
 -- what is said doesn't depend on the memory with which keys compare
 rebased_one : (a b : Memory) (g : Menu) (n : ℕ) (m : Moment) (label : List ℕ) (end : Extent) (r : Again)
     → IsSaid (menu_model a g) n m label end r → IsSaid (menu_model b g) n m label end r
 rebased_one a b g n m label (Closed depth) Can h = h
 rebased_one a b g n m label (Closed depth) (Lost way) (cs, (is, h)) =
-    (cs, (is, record { can = h.can; lost = h.lost; first = h.first }))
+    (cs, (is, assumption))
 rebased_one a b g n m label (Closed depth) Unknown h = h
 rebased_one a b g n m label (Within depth) r h = h
 rebased_one a b g n m label (Stopped depth) r h = h
@@ -49,10 +48,11 @@ pub rebased_said : (a b : Memory) (s t : Menu) (n : ℕ) (m : Moment) (lines : L
     (said : List Again) → s ≡ t → n ≡ usual_choices s → AreSaid (menu_model a s) n m lines end said
     → AreSaid (menu_model b t) (usual_choices t) m lines end said
 rebased_said a b s t n m lines end said same width h =
-    subst (λ g. AreSaid (menu_model b g) (usual_choices g) m lines end said) same
-    (subst (λ k. AreSaid (menu_model b s) k m lines end said) width (record {
+    rw (← same) (subst (λ k. AreSaid (menu_model b s) k m lines end said) width
+    (record {
       count = h.count;
-      each = λ j line r at is. rebased_one a b s n m (shown_line line) end r (h.each j line r at is);
+      each = λ j line r at is. rebased_one a b s n m (shown_line line) end r
+          (h.each j line r at is);
     }))
 
 rebased_avoided : (a b : Memory) (g : Menu) (classes : List ℕ) (m : Moment) (label : List ℕ) (way round : List Run)
@@ -62,25 +62,13 @@ rebased_avoided a b g classes m label way round h = record {
   over = h.over;
   way_is = h.way_is;
   round_is = h.round_is;
-  avoided = record {
-    can = h.avoided.can;
-    on = h.avoided.on;
-    some = h.avoided.some;
-    each = h.avoided.each;
-    never = h.avoided.never;
-  };
+  avoided = assumption;
 }
 
 rebased_must : (a b : Memory) (g : Menu) (classes : List ℕ) (m : Moment) (label counts : List ℕ)
     → MustCome (menu_model a g) classes m label counts → MustCome (menu_model b g) classes m label counts
 rebased_must a b g classes m label counts h before cs windows can on wide fair enough =
-    let soon = h before cs windows can on wide fair enough in record {
-      later = soon.later;
-      first = soon.first;
-      whole = soon.whole;
-      shown = soon.shown;
-      soon = soon.soon;
-    }
+    let soon = h before cs windows can on wide fair enough in search
 
 rebased_label : (a b : Memory) (g : Menu) (classes : List ℕ) (m : Moment) (label : List ℕ) (end : Extent) (r : Comes)
     → IsComing (menu_model a g) classes m label end r → IsComing (menu_model b g) classes m label end r
@@ -96,8 +84,9 @@ pub rebased_coming : (a b : Memory) (s t : Menu) (n : ℕ) (m : Moment) (lines :
     (said : List Comes) → s ≡ t → n ≡ usual_choices s → AreComing (menu_model a s) (own_classes n) m lines end said
     → AreComing (menu_model b t) (own_classes (usual_choices t)) m lines end said
 rebased_coming a b s t n m lines end said same width h =
-    subst (λ g. AreComing (menu_model b g) (own_classes (usual_choices g)) m lines end said) same
-    (subst (λ k. AreComing (menu_model b s) (own_classes k) m lines end said) width (record {
+    rw (← same) (subst (λ k. AreComing (menu_model b s) (own_classes k) m lines end said) width
+    (record {
       count = h.count;
-      each = λ j line r at is. rebased_label a b s (own_classes n) m (shown_line line) end r (h.each j line r at is);
+      each = λ j line r at is. rebased_label a b s (own_classes n) m (shown_line line) end
+          r (h.each j line r at is);
     }))

@@ -3,7 +3,7 @@ use Rattle.std.proofs.Common.{◌≡◌, ℕ, ◌&&◌, ◌||◌, not, Bool, Lis
 use Rattle.pip_model.specs.Acts.{events_made}
 use Rattle.pip_model.specs.Events as E
 use Rattle.pip_model.specs.Events.{Event}
-use Rattle.pip_model.specs.Turn.{outcome_of, turn, world_of}
+use Rattle.pip_model.specs.Turn.{turn, world_of}
 use Rattle.pip_model.specs.Worlds.{World, runs_on}
 use Rattle.pip_outside.specs.Tests.{all_read_outside, if_one_runs, is_confined, reads_outside}
 use Rattle.pip_every.specs.Away.{deed_answers, deeds_read_outside, hostile_looks_away, is_vain, looks_away}
@@ -26,7 +26,7 @@ module _ (own : List ℕ) (blind : ℕ → ℕ → Bool) where
   reads_with w v (E.SetContext cpu c) = refl
 
   reads_same : (w v : World) (e : Event) → IsBut w v → reads_outside own blind w e ≡ reads_outside own blind v e
-  reads_same w v e b = reads_with w v e ∙ ap (λ u. reads_outside own blind u e) (other w v b)
+  reads_same w v e b = rw (reads_with w v e, other w v b)
 
   all_same : (es : List Event) (w v : World) → IsBut w v → all_read_outside own blind w es
       ≡ all_read_outside own blind v es
@@ -46,30 +46,29 @@ module _ (own : List ℕ) (blind : ℕ → ℕ → Bool) where
       ≡ deeds_read_outside own blind v cpu ds
   deeds_same w v cpu [] b = refl
   deeds_same w v cpu (d ∷ ds) b =
-      ap₂ (λ x y. (not (is_its w.tree.root.name (name_on w cpu) d) || x) && y)
-      (ap₂ (λ x y. x || y)
-      (answers_with w v cpu d.deed ∙ ap (λ u. deed_answers u cpu d.deed) (other w v b))
-      (reads_same w v (deed_event cpu d.deed) b)) (deeds_same w v cpu ds b)
-      ∙ ap (λ (u : World). (not (is_its u.tree.root.name (name_on u cpu) d)
-      || (deed_answers v cpu d.deed || reads_outside own blind v (deed_event cpu d.deed)))
-      && deeds_read_outside own blind v cpu ds) (other w v b)
+      cc (
+        ap₂ (λ x y. (not (is_its w.tree.root.name (name_on w cpu) d) || x) && y)
+            (ap₂ (λ x y. x || y) (answers_with w v cpu d.deed ∙ ap (λ u. deed_answers u cpu d.deed) (other w v b))
+            (reads_same w v (deed_event cpu d.deed) b)) (deeds_same w v cpu ds b),
+        other w v b,
+      )
 
   hostile_same : (w v : World) (cpu : ℕ) (ds : List May) → IsBut w v → hostile_looks_away own blind ds w cpu
       ≡ hostile_looks_away own blind ds v cpu
   hostile_same w v cpu ds b =
-      ap₂ (λ x y. reads_outside own blind w (E.Poll cpu)
-      && ((not x || y) && if_one_runs (runs_on w cpu) (is_confined own w.tree)))
-      (ap is_vain (event_same w v (E.Poll cpu) b).0) (deeds_same w v cpu ds b)
-      ∙ ap (λ (u : World). reads_outside own blind u (E.Poll cpu)
-      && ((not (is_vain (outcome_of v (E.Poll cpu))) || deeds_read_outside own blind v cpu ds)
-      && if_one_runs (runs_on u cpu) (is_confined own u.tree))) (other w v b)
+      cc (
+        ap₂ (λ x y. reads_outside own blind w (E.Poll cpu) &&
+            ((not x || y) && if_one_runs (runs_on w cpu) (is_confined own w.tree)))
+            (ap is_vain (event_same w v (E.Poll cpu) b).0) (deeds_same w v cpu ds b),
+        other w v b,
+      )
 
   pub looks_same : (g : Menu) (w v : World) (cpu : ℕ) → IsBut w v → looks_away own blind g w cpu
       ≡ looks_away own blind g v cpu
   looks_same g w v cpu b =
-      ap₂ (λ x y. cond (is_hostile w.tree.root.name (name_on w cpu) g.may) x y) (hostile_same w v cpu g.may b)
-      (all_same (events_made (turn w cpu 0)) w v b ∙ ap (λ es. all_read_outside own blind v (events_made es))
-      (turn_same w v cpu 0 b))
-      ∙ ap (λ (u : World). cond (is_hostile u.tree.root.name (name_on u cpu) g.may)
-      (hostile_looks_away own blind g.may v cpu) (all_read_outside own blind v (events_made (turn v cpu 0))))
-      (other w v b)
+      cc (
+        ap₂ (λ x y. cond (is_hostile w.tree.root.name (name_on w cpu) g.may) x y) (hostile_same w v cpu g.may b)
+            (all_same (events_made (turn w cpu 0)) w v b ∙ ap (λ es. all_read_outside own blind v (events_made es))
+            (turn_same w v cpu 0 b)),
+        other w v b,
+      )

@@ -1,6 +1,6 @@
 -- No turn and no line depends on the caches: worlds that differ in them alone make the same acts, and differ in them
 -- alone again.
-use Rattle.std.proofs.Common.{◌≡◌, ℕ, refl, sym, ap, ap₂, ◌∙◌, List, [], ◌∷◌, Option, Some, None, unwrap_or, slice_get}
+use Rattle.std.proofs.Common.{◌≡◌, ℕ, refl, ap, ap₂, List, [], ◌∷◌, Option, Some, None}
 use Rattle.pip_base.specs.declared.outcome.Outcome.{Outcome}
 use Rattle.pip_base.specs.declared.outcome.Outcome.TheVariants as O
 use Rattle.pip_base.specs.declared.types.Ctx.{Ctx}
@@ -37,10 +37,10 @@ pub event_same : (w v : World) (e : Event) → IsBut w v
 event_same w v e b =
     let d = caches_tell_nothing w v.caches e in
     let o = other w v b in (
-      sym d.outcome ∙ ap (λ u. outcome_of u e) o,
+      rw (← d.outcome, o),
       record {
-        tree = sym d.tree ∙ ap (λ u. (world_of u e).tree) o;
-        cpus = sym d.cpus ∙ ap (λ u. (world_of u e).cpus) o;
+        tree = rw (← d.tree, o);
+        cpus = rw (← d.cpus, o);
       },
     )
 
@@ -51,7 +51,7 @@ acts_same (Makes e ∷ es) w v b = acts_same es (world_of w e) (world_of v e) (e
 acts_same (Writes line ∷ es) w v b = acts_same es w v b
 
 runs_same : (w v : World) (cpu : ℕ) → IsBut w v → runs_on w cpu ≡ runs_on v cpu
-runs_same w v cpu b = ap (λ cs. unwrap_or (slice_get cs cpu) None) b.cpus
+runs_same w v cpu b = rw b.cpus
 
 effect_same : (w v : World) (t cpu : ℕ) (x : Ctx) (f : Effect) → IsBut w v
     → effect_acts w t cpu x f ≡ effect_acts v t cpu x f
@@ -85,7 +85,7 @@ word_same w v t cpu k (Some r) b = effect_same w v t cpu r.ctx (word_effect r.ct
 fetched_same : (w v : World) (t cpu : ℕ) (o : Outcome) → IsBut w v → acts_after_fetch w t cpu o
     ≡ acts_after_fetch v t cpu o
 fetched_same w v t cpu (O.Word k) b =
-    word_same w v t cpu k (runs_on w cpu) b ∙ ap (word_acts v t cpu k) (runs_same w v cpu b)
+    rw (word_same w v t cpu k (runs_on w cpu) b, runs_same w v cpu b)
 fetched_same w v t cpu O.Done b = refl
 fetched_same w v t cpu (O.Reply s k) b = refl
 fetched_same w v t cpu (O.Switched f to k) b = refl
@@ -95,9 +95,7 @@ fetched_same w v t cpu O.Idle b = refl
 fetch_same : (w v : World) (t cpu : ℕ) → IsBut w v → fetch_acts w t cpu ≡ fetch_acts v t cpu
 fetch_same w v t cpu b =
     let s = event_same w v (E.Fetch cpu) b in
-    ap (λ es. Makes (E.Fetch cpu) ∷ es)
-    (fetched_same (world_of w (E.Fetch cpu)) (world_of v (E.Fetch cpu)) t cpu (outcome_of w (E.Fetch cpu)) s.1 ∙
-    ap (acts_after_fetch (world_of v (E.Fetch cpu)) t cpu) s.0)
+    rw (fetched_same (world_of w (E.Fetch cpu)) (world_of v (E.Fetch cpu)) t cpu (outcome_of w (E.Fetch cpu)) s.1, s.0)
 
 polled_same : (w v : World) (t cpu : ℕ) (o : Outcome) → IsBut w v → acts_after_poll w t cpu o
     ≡ acts_after_poll v t cpu o
@@ -111,9 +109,7 @@ polled_same w v t cpu O.Idle b = refl
 pub turn_same : (w v : World) (cpu t : ℕ) → IsBut w v → turn w cpu t ≡ turn v cpu t
 turn_same w v cpu t b =
     let s = event_same w v (E.Poll cpu) b in
-    ap (λ es. Makes (E.Poll cpu) ∷ es)
-    (polled_same (world_of w (E.Poll cpu)) (world_of v (E.Poll cpu)) t cpu (outcome_of w (E.Poll cpu)) s.1 ∙
-    ap (acts_after_poll (world_of v (E.Poll cpu)) t cpu) s.0)
+    rw (polled_same (world_of w (E.Poll cpu)) (world_of v (E.Poll cpu)) t cpu (outcome_of w (E.Poll cpu)) s.1, s.0)
 
 end_polled : (w v : World) (cpu : ℕ) (o : Outcome) → IsBut w v → polled_end w cpu o ≡ polled_end v cpu o
 end_polled w v cpu (O.Word k) b = ap fetched_end (event_same w v (E.Fetch cpu) b).0
@@ -126,8 +122,7 @@ end_polled w v cpu O.Idle b = refl
 pub end_same : (w v : World) (cpu : ℕ) → IsBut w v → turn_end w cpu ≡ turn_end v cpu
 end_same w v cpu b =
     let s = event_same w v (E.Poll cpu) b in
-    end_polled (world_of w (E.Poll cpu)) (world_of v (E.Poll cpu)) cpu (outcome_of w (E.Poll cpu)) s.1 ∙
-    ap (polled_end (world_of v (E.Poll cpu)) cpu) s.0
+    rw (end_polled (world_of w (E.Poll cpu)) (world_of v (E.Poll cpu)) cpu (outcome_of w (E.Poll cpu)) s.1, s.0)
 
 deed_same : (w v : World) (cpu : ℕ) (d : Deed) → IsBut w v → deed_acts w cpu d ≡ deed_acts v cpu d
 deed_same w v cpu d b = ap (λ o. Makes (deed_event cpu d) ∷ Writes (deed_line cpu d o) ∷ [])
@@ -142,6 +137,4 @@ line_same w v cpu (Some d) o b = deed_same w v cpu d b
 pub hostile_same : (w v : World) (cpu : ℕ) (d : Option Deed) → IsBut w v → hostile_acts w cpu d ≡ hostile_acts v cpu d
 hostile_same w v cpu d b =
     let s = event_same w v (E.Poll cpu) b in
-    ap (λ es. Makes (E.Poll cpu) ∷ es)
-    (line_same (world_of w (E.Poll cpu)) (world_of v (E.Poll cpu)) cpu d (outcome_of w (E.Poll cpu)) s.1 ∙
-    ap (acts_after_line (world_of v (E.Poll cpu)) cpu d) s.0)
+    rw (line_same (world_of w (E.Poll cpu)) (world_of v (E.Poll cpu)) cpu d (outcome_of w (E.Poll cpu)) s.1, s.0)

@@ -1,9 +1,8 @@
 -- A search with an empty menu is the search without one.
 use Rattle.std.proofs.Common.{◌≡◌, ℕ, ◌+◌, ◌*◌, ◌&&◌, nat_lt, Bool, true, false, if◌then◌else◌, List, [], length}
 use Rattle.std.proofs.Common.{Option}
-use Rattle.std.proofs.Common.{None, refl, ap, subst, ◌∙◌, arith}
+use Rattle.std.proofs.Common.{None, refl, subst, arith}
 use Rattle.pip_base.specs.Memory.{Memory}
-use Rattle.pip_model.specs.Acts.{text_of}
 use Rattle.pip_model.specs.Worlds.{World}
 use Rattle.pip_search.specs.Certificates.{IsClosedPart, IsReachedPart, Portion}
 use Rattle.pip_search.specs.Portions.{IsPortionOf}
@@ -11,8 +10,8 @@ use Rattle.pip_search.specs.Summary.{IsTold, Witness}
 use Rattle.pip_search.specs.Systems.{Model}
 use Rattle.pip_search.specs.declared.searching.Extent.{Extent}
 use Rattle.pip_every.specs.Keys.{IsKeyOf, model_of}
-use Rattle.pip_every.specs.Menus.{Hostile, Menu, Usual, menu_after, menu_label, menu_model, pick_acts, pick_after}
-use Rattle.pip_every.specs.Menus.{picked, picked_by, usual_choices}
+use Rattle.pip_every.specs.Menus.{Hostile, Menu, Usual, menu_after, menu_label, menu_model}
+use Rattle.pip_every.specs.Menus.{picked, usual_choices}
 use Rattle.pip_every.specs.Moments.{Moment, Scope, choice_label, moment_after}
 use Rattle.pip_every.specs.declared.menus.May.{May}
 
@@ -43,8 +42,7 @@ none_waits true k = refl
 none_waits false k = refl
 
 all_usual : (s : Scope) (w : World) (k : ℕ) → picked (bare_menu s) w k ≡ Usual
-all_usual s w k = ap (picked_by (bare_menu s) w k) (no_deed (nat_lt k (usual_choices (bare_menu s))))
-    ∙ none_waits (nat_lt k s.cpus) k
+all_usual s w k = rw (no_deed (nat_lt k (usual_choices (bare_menu s))), none_waits (nat_lt k s.cpus) k)
 
 abbrev menu_acting : Menu → Acting
 menu_acting g = record {
@@ -60,9 +58,9 @@ same_acting : (s : Scope) → menu_acting (bare_menu s) ≡ usual_acting s
 same_acting s =
     let count : (s.cpus + length s.lines) + s.cpus * 0 ≡ s.cpus + length s.lines = omega arith in
     let act : (m : Moment) (k : ℕ) → menu_after (bare_menu s) m k ≡ moment_after s m k =
-    λ m k. ap (pick_after (bare_menu s) m k) (all_usual s m.world k) in
+    λ m k. rw (all_usual s m.world k) in
     let label : (m : Moment) (k : ℕ) → menu_label (bare_menu s) m k ≡ choice_label s m k =
-    λ m k. ap (λ p. text_of (pick_acts (bare_menu s) m k p)) (all_usual s m.world k) in
+    λ m k. rw (all_usual s m.world k) in
     λ i. record { choices = count i; act = λ m k. act m k i; label = λ m k. label m k i }
 
 pub told_usual : (first : Memory) (s : Scope) (m : Moment) (most limit : ℕ) (ws : List Witness) (count : ℕ)

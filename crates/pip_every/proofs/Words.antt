@@ -1,11 +1,11 @@
 -- The words of what runs on processors are written and read one processor after another.
 use Rattle.std.proofs.Common.{◌≡◌, ℕ, zero, suc, ◌+◌, ◌-◌, ◌<◌, ◌≤◌, List, [], ◌∷◌, ◌++◌, length, take, drop}
-use Rattle.std.proofs.Common.{replicate, slice_index, Option, Some, None, refl, sym, ap, subst, ◌∙◌, arith}
+use Rattle.std.proofs.Common.{replicate, slice_index, Option, Some, None, refl, ◌∙◌, arith}
 use Rattle.std.proofs.Common.{append_assoc, length-append}
 use Rattle.std.specs.List.{AllByRecursion}
 use Rattle.std.proofs.Math.Seq.{drop-append_seam, take-append_seam}
 use Rattle.std.proofs.lemmas.Grind.{take_at_read}
-use Rattle.std.proofs.lemmas.List.{append-nil, length-take-le}
+use Rattle.std.proofs.lemmas.List.{length-take-le}
 use Rattle.pip_model.specs.declared.processors.Occupant.{Occupant}
 use Rattle.pip_every.specs.Keys.{processor_words, running_words, used, used_with}
 use Rattle.pip_every.specs.Reading.{StartsWithOne, StartsWithAll, MayRun, HoldRegisters, read_occupant}
@@ -13,8 +13,8 @@ use Rattle.pip_every.specs.Reading.{StartsWithOne, StartsWithAll, MayRun, HoldRe
 -- no more are used than there are
 most_with : (n k m : ℕ) → k ≤ m → used_with n k ≤ suc m
 most_with zero zero m le = omega arith
-most_with zero (suc k) m le = omega (arith, le)
-most_with (suc n) k m le = omega (arith, le)
+most_with zero (suc k) m le = omega arith
+most_with (suc n) k m le = omega arith
 
 pub used_most : (ns : List ℕ) → used ns ≤ length ns
 used_most [] = omega arith
@@ -25,13 +25,13 @@ whole_with : (n k : ℕ) (ns : List ℕ) → take k ns ++ replicate (length ns -
     → take (used_with n k) (n ∷ ns) ++ replicate (suc (length ns) - used_with n k) 0 ≡ n ∷ ns
 whole_with zero zero ns h =
     let all : suc (length ns) - 0 ≡ suc (length ns - 0) = omega arith in
-    ap (λ v. replicate v 0) all ∙ ap (λ v. 0 ∷ v) h
+    rw (all, h)
 whole_with zero (suc k) ns h =
     let left : suc (length ns) - suc (suc k) ≡ length ns - suc k = omega arith in
-    ap (λ v. 0 ∷ (take (suc k) ns ++ replicate v 0)) left ∙ ap (λ v. 0 ∷ v) h
+    rw (left, h)
 whole_with (suc n) k ns h =
     let left : suc (length ns) - suc k ≡ length ns - k = omega arith in
-    ap (λ v. suc n ∷ (take k ns ++ replicate v 0)) left ∙ ap (λ v. suc n ∷ v) h
+    rw (left, h)
 
 used_whole : (ns : List ℕ) → take (used ns) ns ++ replicate (length ns - used ns) 0 ≡ ns
 used_whole [] = refl
@@ -44,35 +44,34 @@ used_with_more (suc n) k = refl
 
 pub used_zero : (ns : List ℕ) → used (ns ++ (0 ∷ [])) ≡ used ns
 used_zero [] = refl
-used_zero (n ∷ ns) = ap (used_with n) (used_zero ns)
+used_zero (n ∷ ns) = rw (used_zero ns)
 
 pub used_all : (ns : List ℕ) (n : ℕ) → (n ≡ 0 → ⊥) → used (ns ++ (n ∷ [])) ≡ suc (length ns)
 used_all [] zero some = absurd (some refl)
 used_all [] (suc n) some = refl
-used_all (m ∷ ns) n some = ap (used_with m) (used_all ns n some) ∙ used_with_more m (length ns)
+used_all (m ∷ ns) n some = rw (used_all ns n some, used_with_more m (length ns))
 
 -- the first k numbers end in this one
 last_of : (ns : List ℕ) (k : ℕ) → 0 < k → k ≤ length ns
     → take k ns ≡ take (k - 1) ns ++ (slice_index ns (k - 1) ∷ [])
 last_of ns k some most =
-    let more : k - 1 + 1 ≡ k = omega (arith, some) in
-    let lt : k - 1 < length ns = omega (arith, some, most) in
-    ap (λ n. take n ns) (sym more) ∙ (take_at_read ns (k - 1) 0 lt).1
+    let more : k - 1 + 1 ≡ k = omega arith in
+    let lt : k - 1 < length ns = omega arith in
+    cc ((take_at_read ns (k - 1) 0 lt).1)
 
 -- so where it is 0 it is not used
 pub used_before : (ns : List ℕ) (k : ℕ) → 0 < k → k ≤ length ns → slice_index ns (k - 1) ≡ 0
     → used (take (k - 1) ns) ≡ used (take k ns)
 used_before ns k some most none =
-    sym (used_zero (take (k - 1) ns)) ∙ ap (λ n. used (take (k - 1) ns ++ (n ∷ []))) (sym none)
-    ∙ ap used (sym (last_of ns k some most))
+    rw (← used_zero (take (k - 1) ns), ← none, ← last_of ns k some most)
 
 -- else all k are
 pub used_here : (ns : List ℕ) (k : ℕ) → 0 < k → k ≤ length ns → (slice_index ns (k - 1) ≡ 0 → ⊥)
     → k ≡ used (take k ns)
 used_here ns k some most last =
-    let long : length (take (k - 1) ns) ≡ k - 1 = length-take-le (k - 1) ns (omega (arith, most)) in
-    let here : k ≡ suc (length (take (k - 1) ns)) = omega (arith, some, long) in
-    here ∙ sym (ap used (last_of ns k some most) ∙ used_all (take (k - 1) ns) (slice_index ns (k - 1)) last)
+    let long : length (take (k - 1) ns) ≡ k - 1 = length-take-le (k - 1) ns (omega arith) in
+    let here : k ≡ suc (length (take (k - 1) ns)) = omega arith in
+    cc (used_all (take (k - 1) ns) (slice_index ns (k - 1)) last, last_of ns k some most)
 
 -- the words of a partition that runs, and others after them: it is what is read of them
 pub read_running : (r : Occupant) (rest : List ℕ) → length r.ctx.regs ≡ 16
@@ -84,11 +83,9 @@ read_running r rest count =
     let own = take k r.ctx.regs in
     let long : length own ≡ k = length-take-le k r.ctx.regs (used_most r.ctx.regs) in
     let f : List ℕ → Occupant = λ regs. record { name = r.name; ctx = record { pc = r.ctx.pc; regs = regs } } in
-    let regs : take k (own ++ rest) ≡ own = ap (λ n. take n (own ++ rest)) (sym long) ∙ take-append_seam own rest in (
-      ap f (ap (λ v. v ++ replicate (16 - k) 0) regs
-          ∙ (ap (λ n. own ++ replicate (n - k) 0) (sym count) ∙ used_whole r.ctx.regs)),
-      ap (λ n. drop n (running_words (Some r) ++ rest)) after
-          ∙ (ap (λ n. drop n (own ++ rest)) (sym long) ∙ drop-append_seam own rest),
+    let regs : take k (own ++ rest) ≡ own = cc (take-append_seam own rest) in (
+      rw (regs, ← count, used_whole r.ctx.regs),
+      cc (drop-append_seam own rest),
     )
 
 -- and the words hold its registers
@@ -100,23 +97,23 @@ holds r rest count =
     let all = length-append (take k r.ctx.regs) rest in
     record {
       some = omega arith;
-      few = omega (arith, most, count);
-      there = omega (arith, all, long);
+      few = omega arith;
+      there = omega arith;
     }
 
 pub can_hold : (ws : List ℕ) → (slice_index ws 0 ≡ 0 → ⊥) → (o : Option Occupant) (rest : List ℕ)
     → StartsWithOne ws o rest → HoldRegisters ws
-can_hold ws some None rest b = absurd (some (ap (λ v. slice_index v 0) b.whole))
-can_hold ws some (Some q) rest b = subst HoldRegisters (sym b.whole) (holds q rest b.runs.registers)
+can_hold ws some None rest b = absurd (some (rw b.whole))
+can_hold ws some (Some q) rest b = rw b.whole (holds q rest b.runs.registers)
 
 -- the first word isn't 0: a partition runs, and its words are these
 pub read_some : (ws : List ℕ) → (slice_index ws 0 ≡ 0 → ⊥) → (o : Option Occupant) (rest : List ℕ)
     → StartsWithOne ws o rest → (Some (read_occupant ws) ≡ o) × (drop (3 + slice_index ws 2) ws ≡ rest)
-read_some ws some None rest b = absurd (some (ap (λ v. slice_index v 0) b.whole))
+read_some ws some None rest b = absurd (some (rw b.whole))
 read_some ws some (Some q) rest b =
     let whole = read_running q rest b.runs.registers in (
-      ap (λ v. Some (read_occupant v)) b.whole ∙ ap Some whole.0,
-      ap (λ v. drop (3 + slice_index v 2) v) b.whole ∙ whole.1,
+      rw (b.whole, whole.0),
+      rw (b.whole, whole.1),
     )
 
 -- words that begin with those of some processors begin with those of the first of them
@@ -131,7 +128,7 @@ pub record Splits (ws : List ℕ) (n k : ℕ) (os : List (Option Occupant)) (res
 pub splits : (ws : List ℕ) (n k : ℕ) (os : List (Option Occupant)) (rest : List ℕ) → k < n
     → StartsWithAll ws (n - k) os rest
     → Splits ws n k os rest
-splits ws n k [] rest lt h = absurd (omega (arith, lt, h.count_is))
+splits ws n k [] rest lt h = absurd (omega arith)
 splits ws n k (o ∷ os) rest lt h = record {
   first = o;
   others = os;
@@ -141,7 +138,7 @@ splits ws n k (o ∷ os) rest lt h = record {
     whole = h.whole ∙ append_assoc (running_words o) (processor_words os) rest;
   };
   run = h.run.1;
-  count = let c : suc (length os) ≡ n - k = h.count_is in omega (arith, lt, c);
+  count = let c : suc (length os) ≡ n - k = h.count_is in omega arith;
 }
 
 -- what is known where the processors before number k were read
@@ -161,8 +158,7 @@ read_next words count k cpus more runs left after lt is reads h os rest b =
     (processor_words s.others ++ rest) s.begins in (
       s.others,
       (
-        ap (λ v. v ++ s.others) is ∙ (append_assoc cpus (runs ∷ []) s.others ∙
-            (ap (λ v. cpus ++ (v ∷ s.others)) r.0 ∙ (ap (λ v. cpus ++ v) (sym s.are) ∙ at.1.0))),
+        rw (is, append_assoc cpus (runs ∷ []) s.others, r.0, ← s.are, at.1.0),
         record { run = s.run; count_is = s.count; whole = r.1 },
       ),
     )
@@ -172,4 +168,4 @@ none_left : (left : List ℕ) (others : List (Option Occupant)) (rest : List ℕ
     → StartsWithAll left n others rest → (others ≡ []) × (left ≡ rest)
 none_left left [] rest n none h = (refl, h.whole)
 none_left left (o ∷ os) rest n none h =
-    let c : suc (length os) ≡ n = h.count_is in absurd (omega (arith, none, c))
+    let c : suc (length os) ≡ n = h.count_is in absurd (omega arith)

@@ -1,6 +1,5 @@
 -- Worlds that look alike: the relation, both ways and one after another.
-use Rattle.std.proofs.Common.{ℕ, List, [], ◌∷◌, refl, sym, ap, ◌∙◌, subst, Option, Some, None}
-use Rattle.pip_model.specs.Lists.{In}
+use Rattle.std.proofs.Common.{ℕ, List, [], ◌∷◌, refl, sym, ap, ◌∙◌, Option, Some, None}
 use Rattle.pip_model.specs.Tree.{Tree}
 use Rattle.pip_model.specs.Worlds.{World}
 use Rattle.pip_model.specs.declared.processors.Occupant.{Occupant}
@@ -50,7 +49,7 @@ on_alike_on own None (Some y) q a b = absurd a
 on_alike_on own (Some x) None q a b = absurd a
 on_alike_on own (Some x) (Some y) None a b = absurd b
 on_alike_on own (Some x) (Some y) (Some z) a b =
-    (a.0 ∙ b.0, (λ n. a.1 n ∙ b.1 (λ i. n (subst (λ k. In k own) (sym a.0) i))))
+    (a.0 ∙ b.0, (λ n. a.1 n ∙ b.1 (λ i. n (rw a.0 i))))
 
 cpus_on : (own : List ℕ) (os ps qs : List (Option Occupant)) → AlikeCpus own os ps → AlikeCpus own ps qs
     → AlikeCpus own os qs

@@ -1,5 +1,5 @@
 -- What calls on memory answer where words differ in what isn't seen of them.
-use Rattle.std.proofs.Common.{◌≡◌, ℕ, zero, suc, ◌==◌, Bool, true, false, cond, List, [], ◌∷◌, refl, ap, ◌∙◌, subst}
+use Rattle.std.proofs.Common.{◌≡◌, ℕ, zero, suc, ◌==◌, Bool, true, false, cond, List, [], ◌∷◌, refl, ap, ◌∙◌}
 use Rattle.std.proofs.Common.{Option, Some, None}
 use Rattle.pip_base.specs.declared.outcome.Status.{Status}
 use Rattle.pip_base.specs.declared.types.Pair.{Pair}
@@ -88,8 +88,7 @@ module _ (look : ℕ → ℕ → ℕ → ℕ) (t : Tree) (u : ℕ → Option (�
         let v = vpage a.x1 in
         unless (first_met (count_refusals t p a.x0 a.x1)) (prepare_with t c v k (page_chain t p k [] a.x2))
         (prepare_with other c v k (page_chain other p k [] a.x2))
-        (subst (λ q. AlikeAnswers look (prepare_with t c v k (page_chain t p k [] a.x2)) (prepare_with other c v k q))
-        (chain_same p k [] a.x2 m) (prepared c v k (page_chain t p k [] a.x2)))
+        (rw (← chain_same p k [] a.x2 m) (prepared c v k (page_chain t p k [] a.x2)))
 
     pub collect_alike : (p : ℕ) (a : Five) → AlikeAnswers look (collect t p a.x0 a.x1) (collect other p a.x0 a.x1)
     collect_alike p a =

@@ -32,7 +32,7 @@ use Rattle.pip_model.specs.Switching.{node_name, reply_unless, target_node, with
 use Rattle.pip_model.specs.Switching.{yield_place, yield_refusals, yielded_tree}
 use Rattle.pip_model.specs.Tree.{Node, Tree, below, child_at, word_of, dir, free, has_table, holder, is_place, row_at}
 use Rattle.pip_model.specs.Tree.{vpage}
-use Rattle.pip_model.specs.Worlds.{Happened, World, ctx_of, ctx_on, masked_node, running, runs_on}
+use Rattle.pip_model.specs.Worlds.{Happened, World, ctx_of, masked_node, running, runs_on}
 use Rattle.pip_model.specs.declared.call_name.CallName.{CallName}
 use Rattle.pip_model.specs.declared.call_name.CallName.TheVariants.{Masks, OnMemory, Unknown, Yields}
 use Rattle.pip_model.specs.declared.call_name.MemoryCall.{MemoryCall}
@@ -54,7 +54,7 @@ use Rattle.pip_outside.proofs.Masks.{child_bare, masked_alike, reach_bare}
 
 same_trees : (look : ℕ → ℕ → ℕ → ℕ) (t u : Tree) → u ≡ t → AlikeTrees look u t
 same_trees look t u e =
-    subst (λ x. AlikeTrees look x t) (sym e) (tree_alike_same look t)
+    rw e (tree_alike_same look t)
 
 unless_same : (t : Tree) (o : Option Status) (a : Answer) → a.tree ≡ t → (answer_unless t o a).tree ≡ t
 unless_same t None a e = e
@@ -75,9 +75,7 @@ refused t (Some s) n a = refl
 module _ (w : World) (p : ℕ) (c : IsConfined w.tree p) where
   childless : (d : ℕ) (x y : Bool) (xs : List (Bool × Status))
       → first_met ((x, S.NotAligned) ∷ (y, S.NullPage) ∷ no_child w.tree p d ∷ xs) ≢ None
-  childless d x y xs = subst (λ o. first_met ((x, S.NotAligned) ∷ (y, S.NullPage) ∷ (is_none o, S.NotChild) ∷ xs)
-      ≢ None)
-      (sym (c.leaf d)) (third x y S.NotAligned S.NullPage xs S.NotChild)
+  childless d x y xs = rw (c.leaf d) (third x y S.NotAligned S.NullPage xs S.NotChild)
 
   keeps : (a : Five) (k : MemoryCall) → (k ≡ CreatePartition → first_met (create_refusals w.tree p a) ≢ None)
       → (answer k w p a).tree ≡ w.tree
@@ -137,10 +135,7 @@ handled : (w : World) (p : ℕ) (a : Five) (q : Option Node) (c : Option Ctx) �
     → first_met (yield_refusals w p a q) ≡ None → c ≢ None
 handled w p a q c e n z = absurd (go (not (a.x0 == 1) && not (is_place a.x0)) (is_none q)
     (nat_le 256 a.x1 || nat_le 257 a.x2) (not (node_name q == p) && has (running w) (node_name q))
-    (sym (ap (λ x. first_met ((not (a.x0 == 1) && not (is_place a.x0), S.NotAligned) ∷ (is_none q, S.NotChild)
-    ∷ (nat_le 256 a.x1 || nat_le 257 a.x2, S.BadVector)
-    ∷ (not (node_name q == p) && has (running w) (node_name q), S.Running) ∷ (is_none x, S.NoHandler)
-    ∷ (nat_lt a.x2 256 && not (can_save w.tree p a.x2), S.BadSave) ∷ [])) (e ∙ z)) ∙ n))
+    (cc))
   where
     go : (x y u v : Bool) → first_met ((x, S.NotAligned) ∷ (y, S.NotChild) ∷ (u, S.BadVector) ∷ (v, S.Running)
         ∷ (true, S.NoHandler) ∷ (nat_lt a.x2 256 && not (can_save w.tree p a.x2), S.BadSave) ∷ []) ≡ None → ⊥
@@ -159,7 +154,7 @@ module _ (own : List ℕ) (look : ℕ → ℕ → ℕ → ℕ) (w : World) (cpu 
     (i : In r.name own) (c : IsConfined w.tree r.name) where
   -- it runs there
   runs : (P : Occupant → Type 0) → P r → ByOneOf own (runs_on w cpu) P
-  runs P h = subst (λ o. ByOneOf own o P) (sym k) (i, h)
+  runs P h = rw k (i, h)
 
   -- a yield to itself
   yields_itself : (n : ℕ) → Unseen look w.tree (with_zeros r.ctx) (yield_place w.tree r.name n)
@@ -178,29 +173,28 @@ module _ (own : List ℕ) (look : ℕ → ℕ → ℕ → ℕ) (w : World) (cpu 
       b = cond (r.name == w.tree.root.name) false w.tree.root.masked
 
       root : (c : Bool) → cond c b w.tree.root.masked ≡ w.tree.root.masked
-      root true = ap (λ x. cond x false w.tree.root.masked) (ne_eqb r.name w.tree.root.name c.other)
+      root true = rw (ne_eqb r.name w.tree.root.name c.other)
       root false = refl
 
       stays : (xs : List Node) → map unmasked (map (masked_node w.tree.root.name b) xs) ≡ map unmasked xs
       stays [] = refl
-      stays (x ∷ xs) = ap (λ l. unmasked x ∷ l) (stays xs)
+      stays (x ∷ xs) = rw (stays xs)
 
   call_does : (number : ℕ) (a : Five) → IsUnseen own look w (E.Call cpu number a)
       ⊎ IsExit look w r.name (E.Call cpu number a)
   call_does number a =
       let f : what_happens w (E.Call cpu number a) ≡ call (call_named number) w cpu r a =
-      ap (λ o. on_running w cpu o (λ r. call (call_named number) w cpu r a)) k in
+      rw k in
       elim (go (call_named number) refl) [
         | inl m ↦ inl (
           runs (λ r. Unit {0}) tt,
-          subst (λ h. StaysThere h.outcome) (sym f) m.0,
-          subst (λ h. AlikeTrees look h.world.tree w.tree) (sym f) m.1,
+          rw f m.0,
+          rw f m.1,
         )
-        | inr (inl m) ↦ inr (inl (subst (λ h. GoesAway r.name h.outcome) (sym f) m))
+        | inr (inl m) ↦ inr (inl (rw f m))
         | inr (inr (inl m)) ↦ inr (inr (inl (
           m.0,
-          subst (λ o. SaveIsSeen look w.tree (with_zeros (ctx_of o))
-              (yield_place w.tree r.name a.x2)) (sym k) m.1,
+          rw k m.1,
         )))
         | inr (inr (inr m)) ↦ inr (inr (inr m))
       ]
@@ -208,14 +202,14 @@ module _ (own : List ℕ) (look : ℕ → ℕ → ℕ → ℕ) (w : World) (cpu 
       -- all words of a block look as they did, or one doesn't
       words_are : (f h : ℕ → ℕ) (n i : ℕ) → ((j : ℕ) → i ≤ j → j < i + n → f j ≡ h j)
           ⊎ ((j : ℕ) × (i ≤ j) × (j < i + n) × (f j ≢ h j))
-      words_are f h zero i = inl (λ j l k. absurd (omega (arith, l, k)))
+      words_are f h zero i = inl (λ j l k. absurd (omega arith))
       words_are f h (suc n) i = elim (cases_eq (f i) (h i)) [
         | inr d ↦ inr (i, omega arith, omega arith, d)
         | inl e ↦ elim (words_are f h n (i + 1)) [
-          | inr x ↦ inr (x.0, omega (arith, x.1), omega (arith, x.2), x.3)
+          | inr x ↦ inr (x.0, omega arith, omega arith, x.3)
           | inl g ↦ inl (λ j l k. elim (cases_eq i j) [
             | inl d ↦ rw (← d, e)
-            | inr d ↦ g j (omega (arith, l, d)) (omega (arith, k))
+            | inr d ↦ g j (omega arith) (omega arith)
           ])
         ]
       ]
@@ -261,7 +255,7 @@ module _ (own : List ℕ) (look : ℕ → ℕ → ℕ → ℕ) (w : World) (cpu 
               × SaveIsSeen look w.tree (with_zeros r.ctx) (yield_place w.tree r.name a.x2))
               ⊎ ((call_named number ≡ OnMemory CreatePartition)
               × (first_met (create_refusals w.tree r.name a) ≡ None))))
-          by (Some s) q m e = inl (stays m (λ x z. absurd (some s (sym q ∙ z))))
+          by (Some s) q m e = inl (stays m (λ x z. absurd (some s (cc))))
             where
               some : (s : Status) → Some s ≡ None → ⊥
               some s z = cc
@@ -304,31 +298,23 @@ module _ (own : List ℕ) (look : ℕ → ℕ → ℕ → ℕ) (w : World) (cpu 
 
   does : (e : Event) → IsMadeOn cpu e → IsUnseen own look w e ⊎ IsExit look w r.name e
   does (E.Load d va z) m = elim (at_reach va Load z) [
-    | inl x ↦ inl (subst (λ n. ByOneOf own (runs_on w n) (λ r. Answers (reach w.tree r.name va Load z))) (sym m)
-        (runs (λ r. Answers (reach w.tree r.name va Load z)) x))
+    | inl x ↦ inl (rw m (runs (λ r. Answers (reach w.tree r.name va Load z)) x))
     | inr x ↦ inr x
   ]
   does (E.Store d va z x) m = elim (at_store va z x) [
-    | inl y ↦ inl (subst (λ n. ByOneOf own (runs_on w n) (λ r. GoesTo look w.tree va z x
-        (reach w.tree r.name va Store z)))
-        (sym m)
-        (runs (λ r. GoesTo look w.tree va z x (reach w.tree r.name va Store z)) y))
+    | inl y ↦ inl (rw m (runs (λ r. GoesTo look w.tree va z x (reach w.tree r.name va Store z)) y))
     | inr y ↦ inr y
   ]
   does (E.Fetch d) m = elim (at_reach r.ctx.pc Fetch Word) [
-    | inl x ↦ inl (subst (λ n. ByOneOf own (runs_on w n) (λ r. Answers (reach w.tree r.name r.ctx.pc Fetch Word)))
-        (sym m) (runs (λ r. Answers (reach w.tree r.name r.ctx.pc Fetch Word)) x))
-    | inr x ↦ inr (subst (λ n. Faults (reach w.tree r.name (ctx_on w n).pc Fetch Word)) (sym m)
-        (subst (λ o. Faults (reach w.tree r.name (ctx_of o).pc Fetch Word)) (sym k) x))
+    | inl x ↦ inl (rw m (runs (λ r. Answers (reach w.tree r.name r.ctx.pc Fetch Word)) x))
+    | inr x ↦ inr (rw m (subst (λ o. Faults (reach w.tree r.name (ctx_of o).pc Fetch Word)) (sym k) x))
   ]
   does (E.Trap d v a b) m = inr tt
   does (E.Call d number a) m =
-      subst (λ n. IsUnseen own look w (E.Call n number a) ⊎ IsExit look w r.name (E.Call n number a)) (sym m)
-      (call_does number a)
+      rw m (call_does number a)
   does (E.Raise j) m = absurd m
   does (E.Poll d) m = absurd m
-  does (E.SetContext d x) m = inl (subst (λ n. ByOneOf own (runs_on w n) (λ r. Unit {0})) (sym m)
-      (runs (λ r. Unit {0}) tt))
+  does (E.SetContext d x) m = inl (rw m (runs (λ r. Unit {0}) tt))
 
 pub confined_stays_or_exits : ConfinedStaysOrExits
 confined_stays_or_exits own look w cpu e r k i c m = does own look w cpu r k i c e m
@@ -336,17 +322,19 @@ confined_stays_or_exits own look w cpu e r k i c m = does own look w cpu r k i c
 pub masks_are_unseen : MasksAreUnseen
 masks_are_unseen own look w cpu number a r b k i n e =
     let f = ap (λ o. on_running w cpu o (λ r. call (call_named number) w cpu r a)) k ∙ ap (λ c. call c w cpu r a) e in (
-      subst (λ o. ByOneOf own o (λ r. Unit {0})) (sym k) (i, tt),
-      subst (λ h. StaysThere h.outcome) (sym f) tt,
-      subst (λ h. AlikeTrees look h.world.tree w.tree) (sym f) (masked_alike look r.name b w.tree n),
+      rw k (i, tt),
+      rw f tt,
+      rw f (masked_alike look r.name b w.tree n),
     )
 
 pub confined_alike : ConfinedAlike
-confined_alike look t u p a c = of_bare u p (subst (λ x. IsConfined x p) a.nodes (record {
-  leaf = λ d. rw (child_bare t p d, c.leaf d);
-  other = c.other;
-  there = λ va g i z e. sym (a.words g).there ∙ c.there va g i z (sym (reach_bare t p va Store z) ∙ e);
-}))
+confined_alike look t u p a c = of_bare u p (rw (← a.nodes)
+    (record {
+      leaf = λ d. rw (child_bare t p d, c.leaf d);
+      other = c.other;
+      there = λ va g i z e. sym (a.words g).there
+          ∙ c.there va g i z (sym (reach_bare t p va Store z) ∙ e);
+    }))
   where
     none : (o : Option Node) → option_map unmasked o ≡ None → o ≡ None
     none None e = refl
@@ -354,7 +342,7 @@ confined_alike look t u p a c = of_bare u p (subst (λ x. IsConfined x p) a.node
 
     of_bare : (u : Tree) (p : ℕ) → IsConfined (one_mask u) p → IsConfined u p
     of_bare u p c = record {
-      leaf = λ d. none (child_at u p d) (sym (child_bare u p d) ∙ c.leaf d);
+      leaf = λ d. none (child_at u p d) (cc (child_bare u p d, c.leaf d));
       other = c.other;
       there = λ va g i z e. c.there va g i z (reach_bare u p va Store z ∙ e);
     }

@@ -1,8 +1,8 @@
 -- Two words of one class in an entry do the same.
-use Rattle.std.proofs.Common.{◌≡◌, ℕ, ◌+◌, ◌%◌, ◌==◌, ◌&&◌, ◌||◌, ◌⊎◌, inl, inr, not, Bool, true, false, cond, List, []}
-use Rattle.std.proofs.Common.{◌∷◌, refl, sym, ap, ◌∙◌, subst, arith, eqb-true, option_map}
+use Rattle.std.proofs.Common.{◌≡◌, ℕ, ◌+◌, ◌==◌, ◌&&◌, ◌||◌, ◌⊎◌, inl, inr, not, Bool, true, false, cond, List, []}
+use Rattle.std.proofs.Common.{◌∷◌, refl, sym, arith, eqb-true, option_map}
 use Rattle.std.proofs.Common.{Option, Some, None}
-use Rattle.std.specs.Prelude.{is_none, nat_le}
+use Rattle.std.specs.Prelude.{is_none}
 use Rattle.pip_base.specs.declared.types.Access.{Access}
 use Rattle.pip_base.specs.declared.types.Access.TheVariants.{Load, Store}
 use Rattle.pip_base.specs.declared.types.Size.{Size}
@@ -10,14 +10,14 @@ use Rattle.pip_base.specs.declared.types.Size.TheVariants.{Byte, Word}
 use Rattle.pip_model.specs.Lists.{In}
 use Rattle.pip_model.specs.Happens.{written_over}
 use Rattle.pip_model.proofs.OnLists.Members.{any_none, find_in, has_in}
-use Rattle.pip_model.specs.Handlers.{block_at, is_reached, store_at}
-use Rattle.pip_model.specs.Reach.{Alignment, Faulted, Place, Reached, is_misaligned, reach, reach_by_row}
+use Rattle.pip_model.specs.Handlers.{block_at, store_at}
+use Rattle.pip_model.specs.Reach.{Faulted, Place, Reached, reach, reach_by_row}
 use Rattle.pip_model.specs.Tree.{Row, Tree, hidden, node, row_at, vpage, word_of}
 use Rattle.pip_outside.specs.Entries.{ClassesAreSights, EntriesHaveClasses, block_class, by_class, class_look}
 use Rattle.pip_outside.specs.Entries.{entry_fits}
 use Rattle.pip_outside.specs.Entries.{fits_rows, free_of, is_of_word, place_class, rows_same, rows_tree, seen_by}
 use Rattle.pip_outside.specs.Entries.{word_class}
-use Rattle.pip_outside.specs.Outside.{BothLand, EntryMisses, IsOneUse, Lands, seen_but}
+use Rattle.pip_outside.specs.Outside.{BothLand, EntryMisses, IsOneUse, Lands}
 use Rattle.pip_outside.specs.Sights.{each_from}
 use Rattle.pip_outside.proofs.Testing.{all_are, both, off}
 
@@ -38,21 +38,21 @@ module _ (blind : ℕ → ℕ → Bool) (entries : ℕ → ℕ → Option (ℕ �
     where
       go : (b : Bool) → 1 ≡ cond b 2 (3 + y) → ⊥
       go true k = cc
-      go false k = omega (arith, k)
+      go false k = omega arith
   places x y (Place g i) (Faulted f) k = absurd (go (each_from (λ j. blind g j) 17 i) k)
     where
       go : (b : Bool) → cond b 2 (3 + x) ≡ 1 → ⊥
       go true k = cc
-      go false k = omega (arith, k)
+      go false k = omega arith
   places x y (Place g i) (Place h j) k = go (each_from (λ j. blind g j) 17 i) (each_from
       (λ k. blind h k) 17 j) refl refl k
     where
       go : (b c : Bool) → each_from (λ j. blind g j) 17 i ≡ b → each_from (λ k. blind h k) 17 j ≡ c
           → cond b 2 (3 + x) ≡ cond c 2 (3 + y) → (x ≡ y) ⊎ BothLand look (Place g i) (Place h j)
       go true true d e k = inr (land g i d, land h j e)
-      go true false d e k = absurd (omega (arith, k))
-      go false true d e k = absurd (omega (arith, k))
-      go false false d e k = inl (omega (arith, k))
+      go true false d e k = absurd (omega arith)
+      go false true d e k = absurd (omega arith)
+      go false false d e k = inl (omega arith)
 
   -- two words of one class
   one_use : (x y : ℕ) → word_class blind t p x ≡ word_class blind t p y → (x ≡ y) ⊎ IsOneUse look t p x y
@@ -64,7 +64,7 @@ module _ (blind : ℕ → ℕ → Bool) (entries : ℕ → ℕ → Option (ℕ �
         where
           by : (b : Bool) → 0 ≡ cond b 2 (3 + n) → ⊥
           by true k = cc
-          by false k = omega (arith, k)
+          by false k = omega arith
 
       go : (o q : Option ℕ) → block_class blind t p x o ≡ block_class blind t p y q → block_at t p (Some x) ≡ o
           → block_at t p (Some y) ≡ q → (x ≡ y) ⊎ IsOneUse look t p x y
@@ -79,9 +79,8 @@ module _ (blind : ℕ → ℕ → Bool) (entries : ℕ → ℕ → Option (ℕ �
 pub entries_have_classes : EntriesHaveClasses
 entries_have_classes own blind entries t p g i f in_own apart at is y k =
     let x = word_of (t.words g) i in
-    let same : f x ≡ f y = subst (λ o. by_class o (seen_but blind g i x) x
-    ≡ by_class o (seen_but blind g i y) y) at k in
-    elim (one_use blind entries apart t p x y (sym (is x) ∙ same ∙ is y)) [
+    let same : f x ≡ f y = rw at at k in
+    elim (one_use blind entries apart t p x y (rw (← is x, same, is y))) [
       | inl e ↦ inl e
       | inr u ↦ inr (in_own, u)
     ]
@@ -117,8 +116,7 @@ module _ (t : Tree) (p : ℕ) (rows : List Row) (fit : fits_rows t p rows ≡ tr
       by false false e = refl
 
   same_reach : (va : ℕ) (a : Access) (z : Size) → reach (rows_tree rows) 0 va a z ≡ reach t p va a z
-  same_reach va a z = rw own_rows (ap (cond (is_misaligned va z) (Faulted Alignment)) (by (row_at rows
-      (vpage va)) refl))
+  same_reach va a z = rw own_rows (rw (by (row_at rows (vpage va)) refl))
     where
       by : (o : Option Row) → row_at rows (vpage va) ≡ o
           → reach_by_row (rows_tree rows) va a o ≡ reach_by_row t va a o
@@ -127,13 +125,11 @@ module _ (t : Tree) (p : ℕ) (rows : List Row) (fit : fits_rows t p rows ≡ tr
 
   same_class : (blind : ℕ → ℕ → Bool) (x : ℕ) → word_class blind (rows_tree rows) 0 x ≡ word_class blind t p x
   same_class blind x =
-      ap (λ q. block_class blind (rows_tree rows) 0 x
-      (cond ((x % 4 == 0 && nat_le (x % 4096) 4028) && is_reached q) (Some x) None)) (same_reach x Load Word)
-      ∙ by (block_at t p (Some x))
+      rw (same_reach x Load Word, by (block_at t p (Some x)))
     where
       by : (o : Option ℕ) → block_class blind (rows_tree rows) 0 x o ≡ block_class blind t p x o
       by None = refl
-      by (Some a) = ap (place_class blind x) (same_reach a Store Word)
+      by (Some a) = rw (same_reach a Store Word)
 
 pub classes_are_sights : ClassesAreSights
 classes_are_sights own blind kept = record {
@@ -167,7 +163,7 @@ classes_are_sights own blind kept = record {
     stores o b va Word n x y e k = refl
     stores (Some rows) b va Byte n x y e k = cc
     stores None true va Byte n x y e k = refl
-    stores None false va Byte n x y e k = ap (written_over va Byte n) k
+    stores None false va Byte n x y e k = rw k
 
     apart : (h j : ℕ) → free h j ≡ true → option_map class (kept h j) ≡ None
     apart h j = by (kept h j)
@@ -183,4 +179,4 @@ classes_are_sights own blind kept = record {
         let (mine, fit) = both _ _ e in
         entries_have_classes own free (λ h j. option_map class (kept h j)) t p g i (class rows)
         (has_in p own mine) apart
-        (ap (option_map class) q) (same_class t p rows fit free)
+        (rw q) (same_class t p rows fit free)

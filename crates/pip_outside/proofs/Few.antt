@@ -1,6 +1,6 @@
 -- A partition with fewer than five pages to read and write makes no child.
 use Rattle.std.proofs.Common.{◌≡◌, ℕ, suc, ◌≤◌, ◌==◌, ◌⊎◌, inl, inr, true, false, not}
-use Rattle.std.proofs.Common.{List, [], ◌∷◌, map, length, refl, sym, ap, ◌∙◌, subst, arith, eqb-true, Option, Some}
+use Rattle.std.proofs.Common.{List, [], ◌∷◌, map, length, refl, subst, arith, eqb-true, Option, Some}
 use Rattle.std.proofs.Common.{None}
 use Rattle.std.specs.Prelude.{bit_and, option_map, unwrap_or}
 use Rattle.std.specs.List.{list_any}
@@ -23,14 +23,14 @@ remove x (y ∷ ys) (inl e) = (
   ys,
   refl,
   λ g i. elim i [
-    | inl f ↦ inl (f ∙ sym e)
+    | inl f ↦ inl (cc)
     | inr j ↦ inr j
   ],
 )
 remove x (y ∷ ys) (inr i) =
     let (zs, l, f) = remove x ys i in (
       y ∷ zs,
-      ap suc l,
+      rw l,
       λ g j. elim j [
         | inl e ↦ inr (inl e)
         | inr k ↦ elim (f g k) [
@@ -45,15 +45,15 @@ fewer : (xs ys : List ℕ) → Distinct xs → ((g : ℕ) → In g xs → In g y
 fewer [] ys d sub = omega arith
 fewer (x ∷ xs) ys d sub =
     let (zs, l, f) = remove x ys (sub x (inl refl)) in
-    let h = fewer xs zs d.1 (λ g i. elim (f g (sub g (inr i))) [
-      | inl e ↦ absurd (d.0 (subst (λ z. In z xs) e i))
-      | inr m ↦ m
-    ]) in
-    omega (arith, l, h)
+    omega (
+      arith,
+      fewer xs zs d.1 (λ g i. elim (f g (sub g (inr i)))
+          [ inl e ↦ absurd (d.0 (subst (λ z. In z xs) e i)) | inr m ↦ m ]),
+    )
 
 count_map : (rs : List Row) → length (map (λ r. r.at) rs) ≡ length rs
 count_map [] = refl
-count_map (r ∷ rs) = ap suc (count_map rs)
+count_map (r ∷ rs) = rw (count_map rs)
 
 -- where a vpage is writable there is such a row
 has_row : (t : Tree) (p v : ℕ) → writable t p v ≡ true → In v (map (λ r. r.at) (writable_rows t p))
@@ -65,8 +65,8 @@ has_row t p v w = by (row_at (node t p).rows v) refl w
     by None e h = cc
     by (Some r) e h =
         let f = find_in (λ r. r.at == v) r (node t p).rows e in
-        subst (λ n. In n (map (λ r. r.at) (writable_rows t p))) (eqb-true r.at v f.1)
-        (In-map (λ r. r.at) r (writable_rows t p) (In-filter (λ r. bit_and 3 r.rights == 3) r (node t p).rows f.0 h))
+        rw (← eqb-true r.at v f.1) (In-map (λ r. r.at) r (writable_rows t p)
+        (In-filter (λ r. bit_and 3 r.rights == 3) r (node t p).rows f.0 h))
 
 pub few_pages_create_none : FewPagesCreateNone
 few_pages_create_none t p few a e =
@@ -74,11 +74,10 @@ few_pages_create_none t p few a e =
     let m : MayCreate t p a = may_create t p a e in
     let right : list_any (λ x. not (writable t p (vpage x))) (list_of a) ≡ false = passed cs e S.NoRight in
     let d : Distinct (map vpage (list_of a)) = Distinct-map vpage (list_of a) m.differ (λ x y i j q.
-    let u = (m.usable x i).aligned in let w = (m.usable y j).aligned in omega (arith, u, w, q)) in
+    omega (arith, (m.usable x i).aligned, (m.usable y j).aligned)) in
     let l : length (map vpage (list_of a)) ≤ length (map (λ r. r.at) (writable_rows t p)) =
     fewer (map vpage (list_of a)) (map (λ r. r.at) (writable_rows t p)) d (λ g i.
     let (x, k, q) = In-map_from vpage g (list_of a) i in
-    subst (λ n. In n (map (λ r. r.at) (writable_rows t p))) (sym q)
-    (has_row t p (vpage x) (not_false _ (any_none (λ x. not (writable t p (vpage x))) x (list_of a) right k)))) in
+    rw q (has_row t p (vpage x) (not_false _ (any_none (λ x. not (writable t p (vpage x))) x (list_of a) right k)))) in
     let n = count_map (writable_rows t p) in
-    absurd (omega (arith, few, l, n))
+    absurd (omega arith)

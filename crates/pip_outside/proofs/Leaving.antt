@@ -1,11 +1,9 @@
 -- Faults and traps that do the same; calls that are refused; saves.
-use Rattle.std.proofs.Common.{◌≡◌, ◌≢◌, ℕ, [], refl, sym, ap, ◌∙◌, subst, Option, Some, None}
+use Rattle.std.proofs.Common.{◌≡◌, ◌≢◌, ℕ, [], refl, sym, ap, ◌∙◌, Option, Some, None}
 use Rattle.pip_base.specs.declared.outcome.Outcome.TheVariants as O
 use Rattle.pip_base.specs.declared.outcome.Status.{Status}
 use Rattle.pip_base.specs.declared.outcome.Status.TheVariants as S
-use Rattle.pip_base.specs.declared.types.Access.TheVariants.{Load, Store, Fetch}
 use Rattle.pip_base.specs.declared.types.Ctx.{Ctx}
-use Rattle.pip_base.specs.declared.types.Size.TheVariants.{Word}
 use Rattle.pip_model.specs.Answers.{Answer, Five, accept, answer_unless, child_name, child_of, first_met, page_of}
 use Rattle.pip_model.specs.AddVAddr.{add_refusals, tree_with_row}
 use Rattle.pip_model.specs.Collect.{collect_refusals, first_va, returned_pages, table_for, tree_without_table}
@@ -14,12 +12,11 @@ use Rattle.pip_model.specs.DeletePartition.{delete_refusals, tree_without_subtre
 use Rattle.pip_model.specs.MappedInChild.{find_refusals, holder_born}
 use Rattle.pip_model.specs.RemoveVAddr.{remove_refusals, tree_without_row}
 use Rattle.pip_model.specs.CountToMap.{count_refusals, pages_needed}
-use Rattle.pip_model.specs.Deliver.{deliver, deliver_to}
+use Rattle.pip_model.specs.Deliver.{deliver}
 use Rattle.pip_model.specs.Events as E
 use Rattle.pip_model.specs.Handlers.{handler}
-use Rattle.pip_model.specs.Happens.{answer, call, call_named, load_happens, on_running, what_happens, wrote}
+use Rattle.pip_model.specs.Happens.{answer, call, call_named, on_running, what_happens}
 use Rattle.pip_model.specs.Prepare.{PageChain, Pages, Refused, page_chain, prepare_with}
-use Rattle.pip_model.specs.Reach.{reach}
 use Rattle.pip_model.specs.Switching.{node_name, reply_unless, target_node, yield_happens, yield_refusals}
 use Rattle.pip_model.specs.Tree.{Tree, dir, holder, vpage}
 use Rattle.pip_model.specs.Worlds.{Happened, World, running, runs_on}
@@ -32,33 +29,28 @@ use Rattle.pip_model.specs.declared.call_name.MemoryCall.TheVariants.{RemoveVAdd
 use Rattle.pip_model.specs.declared.processors.Occupant.{Occupant}
 use Rattle.pip_outside.specs.Exits.{FetchFaultsAreTraps, LoadFaultsAreTraps, RefusedIsUnseen}
 use Rattle.pip_outside.specs.Exits.{StoreFaultsAreTraps, UntakenWordsDoNotMatter}
-use Rattle.pip_outside.specs.Outside.{AlikeTrees}
-use Rattle.pip_outside.specs.Unseen.{ByOneOf, StaysThere}
 use Rattle.pip_outside.proofs.Alikes.{tree_alike_same}
 use Rattle.pip_outside.proofs.Turning.{fetch_by}
 
 trap_by : (w : World) (cpu k a b : ℕ) (r : Occupant) → runs_on w cpu ≡ Some r
     → what_happens w (E.Trap cpu k a b) ≡ deliver w cpu r k a b
-trap_by w cpu k a b r e = ap (λ o. on_running w cpu o (λ r. deliver w cpu r k a b)) e
+trap_by w cpu k a b r e = rw e
 
 pub load_faults_are_traps : LoadFaultsAreTraps
 load_faults_are_traps w cpu va z r f e q =
-    ap (λ o. on_running w cpu o (λ r. load_happens w cpu r va Load z (reach w.tree r.name va Load z))) e
-    ∙ ap (load_happens w cpu r va Load z) q ∙ sym (trap_by w cpu _ va _ r e)
+    rw (e, q, ← trap_by w cpu _ va _ r e)
 
 pub store_faults_are_traps : StoreFaultsAreTraps
 store_faults_are_traps w cpu va z x r f e q =
-    ap (λ o. on_running w cpu o (λ r. wrote w cpu r va z x (reach w.tree r.name va Store z))) e
-    ∙ ap (wrote w cpu r va z x) q ∙ sym (trap_by w cpu _ va _ r e)
+    rw (e, q, ← trap_by w cpu _ va _ r e)
 
 pub fetch_faults_are_traps : FetchFaultsAreTraps
 fetch_faults_are_traps w cpu r f e q =
-    fetch_by w cpu r e ∙ ap (load_happens w cpu r r.ctx.pc Fetch Word) q ∙ sym (trap_by w cpu _ r.ctx.pc _ r e)
+    rw (fetch_by w cpu r e, q, ← trap_by w cpu _ r.ctx.pc _ r e)
 
 pub untaken_words_do_not_matter : UntakenWordsDoNotMatter
 untaken_words_do_not_matter w cpu k a b c d r e n =
-    trap_by w cpu k a b r e ∙ ap (deliver_to w cpu r k a b) n ∙ sym (ap (deliver_to w cpu r k c d) n)
-    ∙ sym (trap_by w cpu k c d r e)
+    cc (trap_by w cpu k a b r e, trap_by w cpu k c d r e)
 
 -- ---- refusals
 
@@ -107,11 +99,9 @@ reply_status s t u v e = cc
 pub refused_is_unseen : RefusedIsUnseen
 refused_is_unseen own look w cpu number a r s v k i e n =
     let f = ap (λ o. on_running w cpu o (λ r. call (call_named number) w cpu r a)) k in (
-      subst (λ o. ByOneOf own o (λ r. Unit {0})) (sym k) (i, tt),
-      subst StaysThere (sym e) tt,
-      subst (λ t. AlikeTrees look t w.tree)
-          (sym (ap (λ h. h.world.tree) f ∙ by (call_named number) (sym (ap (λ h. h.outcome) f) ∙ e)))
-          (tree_alike_same look w.tree),
+      rw k (i, tt),
+      rw e tt,
+      rw (f, by (call_named number) (sym (ap (λ h. h.outcome) f) ∙ e)) (tree_alike_same look w.tree),
     )
   where
     yields : (o : Option Status) (h : Happened) → (h.outcome ≡ O.Reply s v → h.world.tree ≡ w.tree)
@@ -121,8 +111,8 @@ refused_is_unseen own look w cpu number a r s v k i e n =
 
     by : (c : CallName) → (call c w cpu r a).outcome ≡ O.Reply s v → (call c w cpu r a).world.tree ≡ w.tree
     by (OnMemory c) e =
-        kept w r.name a c (λ q. n (sym (reply_status (answer c w r.name a).status s (answer c w r.name a).value v e)
-        ∙ q))
+        kept w r.name a c (λ q. n (rw (← reply_status (answer c w r.name a).status s (answer c w r.name a).value v e)
+        q))
     by Yields e =
         let q = target_node w.tree r.name a.x0 in
         yields (first_met (yield_refusals w r.name a q)) _ (enters (node_name q) (handler w.tree (node_name q) a.x1)) e

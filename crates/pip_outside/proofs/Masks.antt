@@ -1,8 +1,8 @@
 -- The mask of a partition that isn't the root is read by no event.
-use Rattle.std.proofs.Common.{◌≡◌, ◌≢◌, ℕ, zero, suc, ◌+◌, ◌*◌, ◌%◌, ◌==◌, ◌&&◌, ◌||◌, not, Bool, true, false, cond}
-use Rattle.std.proofs.Common.{List, [], ◌∷◌, ◌++◌}
+use Rattle.std.proofs.Common.{◌≡◌, ◌≢◌, ℕ, zero, suc, ◌+◌, ◌*◌, ◌==◌, not, Bool, true, false, cond}
+use Rattle.std.proofs.Common.{List, [], ◌∷◌}
 use Rattle.std.proofs.Common.{map, refl, sym, ap, ap₂, ◌∙◌, Option, Some, None}
-use Rattle.std.specs.Prelude.{filter, find, flat_map, is_none, is_some, nat_le, nat_lt, option_map, slice_set}
+use Rattle.std.specs.Prelude.{filter, find, flat_map, is_none, is_some, option_map, slice_set}
 use Rattle.std.specs.Prelude.{unwrap_or}
 use Rattle.std.specs.List.{list_any}
 use Rattle.std.proofs.lemmas.Bool.{ne_eqb}
@@ -13,20 +13,20 @@ use Rattle.pip_base.specs.declared.types.Size.{Size}
 use Rattle.pip_base.specs.declared.types.Size.TheVariants.{Word}
 use Rattle.pip_base.specs.declared.outcome.Status.{Status}
 use Rattle.pip_model.specs.Answers.{Answer, Five, answer_unless, first_met, nobody}
-use Rattle.pip_model.specs.Answers.{words_cleared, words_without}
+use Rattle.pip_model.specs.Answers.{words_without}
 use Rattle.pip_model.specs.CountToMap.{count_refusals, count_to_map, pages_needed}
 use Rattle.pip_model.specs.CreatePartition.{create_partition, create_refusals, newborn}
 use Rattle.pip_model.specs.DeletePartition.{delete_refusals, delete_partition, some_run, tree_without_subtree}
 use Rattle.pip_model.specs.Answers.{child_name, child_of, page_of}
 use Rattle.pip_model.specs.Deliver.{deliver, deliver_to, nearest_above, nearest_among, nearest_taker, taker_or}
-use Rattle.pip_model.specs.Handlers.{block, block_at, context_reached, handler, handler_at, is_reached, save_place}
+use Rattle.pip_model.specs.Handlers.{block, block_at, context_reached, handler, handler_at, save_place}
 use Rattle.pip_model.specs.Handlers.{store_at}
 use Rattle.pip_model.specs.Lists.{has}
-use Rattle.pip_model.specs.Reach.{Alignment, Faulted, Place, Reached, Unmapped, is_misaligned, reach}
+use Rattle.pip_model.specs.Reach.{Faulted, Place, Reached, reach}
 use Rattle.pip_model.specs.Reach.{reach_by_row, word_reached}
 use Rattle.pip_model.specs.Tree.{Node, Row, Table, Tree, dir, word_of, ancestry, below, chain, chain_in, change_at}
 use Rattle.pip_model.specs.Tree.{change_node, child_at, children, config}
-use Rattle.pip_model.specs.Tree.{free, hidden, holder, holds, is_free_row, names_of, node, nodes, row_at, vpage}
+use Rattle.pip_model.specs.Tree.{free, hidden, holder, is_free_row, names_of, node, nodes, row_at, vpage}
 use Rattle.pip_model.specs.Worlds.{Happened, World, lines_in, masked_node, running, runs_on, save_running}
 use Rattle.pip_model.specs.Worlds.{with_masked, with_pending}
 use Rattle.pip_base.specs.Status.{status_number}
@@ -34,11 +34,11 @@ use Rattle.pip_base.specs.declared.outcome.Outcome.{Outcome}
 use Rattle.pip_base.specs.declared.outcome.Outcome.TheVariants as O
 use Rattle.pip_base.specs.declared.types.Pair.{Pair}
 use Rattle.pip_model.specs.AddVAddr.{add_refusals, add_vaddr, with_row}
-use Rattle.pip_model.specs.Collect.{collect_refusals, collect, first_va, returned_pages, table_for}
-use Rattle.pip_model.specs.Collect.{without_table, words_with_chain}
+use Rattle.pip_model.specs.Collect.{collect_refusals, collect, returned_pages, table_for}
+use Rattle.pip_model.specs.Collect.{without_table}
 use Rattle.pip_model.specs.Events.{Event}
 use Rattle.pip_model.specs.Events as E
-use Rattle.pip_model.specs.Handlers.{save, saved_to}
+use Rattle.pip_model.specs.Handlers.{save}
 use Rattle.pip_model.specs.Happens.{access_number, answer, call, call_named, fault_number, fault_vector, load_happens}
 use Rattle.pip_model.specs.Happens.{on_running, read_of, what_happens, with_word, written_over, wrote}
 use Rattle.pip_model.specs.MappedInChild.{find_refusals, holder_born, mapped_in_child}
@@ -46,7 +46,7 @@ use Rattle.pip_model.specs.Poll.{lines_with, lowest_line, may_take, none_taken, 
 use Rattle.pip_model.specs.Prepare.{PageChain, Pages, Refused, next_in_chain, page_chain, prepare}
 use Rattle.pip_model.specs.Prepare.{prepare_with, tree_with_table, with_table}
 use Rattle.pip_model.specs.RemoveVAddr.{remove_refusals, remove_vaddr, without_row}
-use Rattle.pip_model.specs.Switching.{node_name, reply_happens, reply_unless, target_node, with_reply, with_zeros}
+use Rattle.pip_model.specs.Switching.{node_name, reply_happens, reply_unless, target_node, with_reply}
 use Rattle.pip_model.specs.Switching.{yield}
 use Rattle.pip_model.specs.Switching.{yield_happens, yield_refusals, yield_to, yielded_tree}
 use Rattle.pip_model.specs.declared.call_name.CallName.{CallName}
@@ -80,12 +80,12 @@ filtered p (x ∷ xs) = by (p (unmasked x)) (filtered p xs)
     by : (b : Bool) → filter p (map unmasked xs) ≡ map unmasked (filter (λ x. p (unmasked x)) xs)
         → cond b (unmasked x ∷ filter p (map unmasked xs)) (filter p (map unmasked xs))
         ≡ map unmasked (cond b (x ∷ filter (λ x. p (unmasked x)) xs) (filter (λ x. p (unmasked x)) xs))
-    by true e = ap (λ l. unmasked x ∷ l) e
+    by true e = rw e
     by false e = e
 
 any : (p : Node → Bool) (xs : List Node) → list_any p (map unmasked xs) ≡ list_any (λ x. p (unmasked x)) xs
 any p [] = refl
-any p (x ∷ xs) = ap (λ b. p (unmasked x) || b) (any p xs)
+any p (x ∷ xs) = rw (any p xs)
 
 mapped : (f : Node → Node) → ((x : Node) → unmasked (f (unmasked x)) ≡ unmasked (f x)) → (xs : List Node)
     → map unmasked (map f (map unmasked xs)) ≡ map unmasked (map f xs)
@@ -94,15 +94,15 @@ mapped f s (x ∷ xs) = ap₂ (λ y ys. y ∷ ys) (s x) (mapped f s xs)
 
 twice : (xs : List Node) → map unmasked (map unmasked xs) ≡ map unmasked xs
 twice [] = refl
-twice (x ∷ xs) = ap (λ l. unmasked x ∷ l) (twice xs)
+twice (x ∷ xs) = rw (twice xs)
 
 names : (xs : List Node) → names_of (map unmasked xs) ≡ names_of xs
 names [] = refl
-names (x ∷ xs) = ap (λ l. x.name ∷ l) (names xs)
+names (x ∷ xs) = rw (names xs)
 
 configs : (xs : List Node) → flat_map config (map unmasked xs) ≡ flat_map config xs
 configs [] = refl
-configs (x ∷ xs) = ap (λ l. config x ++ l) (configs xs)
+configs (x ∷ xs) = rw (configs xs)
 
 ancestors : (root : Node) (xs : List Node) (p : ℕ)
     → map unmasked (chain_in root (map unmasked xs) p) ≡ map unmasked (chain_in root xs p)
@@ -111,7 +111,7 @@ ancestors root (x ∷ xs) p = by (x.name == p) _ _ _ _ (ancestors root xs x.up) 
   where
     by : (b : Bool) (us vs ys zs : List Node) → map unmasked us ≡ map unmasked vs → map unmasked ys ≡ map unmasked zs
         → map unmasked (cond b (unmasked x ∷ us) ys) ≡ map unmasked (cond b (x ∷ vs) zs)
-    by true us vs ys zs e d = ap (λ l. unmasked x ∷ l) e
+    by true us vs ys zs e d = rw e
     by false us vs ys zs e d = d
 
 no_node : (o : Option Node) → is_none (option_map unmasked o) ≡ is_none o
@@ -127,8 +127,7 @@ joined n root xs ys u v e d = λ i. record { frames = n; root = root; others = e
 
 module _ (t : Tree) where
   node_bare : (p : ℕ) → unmasked (node (one_mask t) p) ≡ unmasked (node t p)
-  node_bare p = ap (λ o. unmasked (unwrap_or (cond (t.root.name == p) (Some t.root) o) t.root))
-      (found (λ x. x.name == p) t.others) ∙ by (t.root.name == p) (find (λ x. x.name == p) t.others)
+  node_bare p = rw (found (λ x. x.name == p) t.others, by (t.root.name == p) (find (λ x. x.name == p) t.others))
     where
       by : (b : Bool) (o : Option Node) → unmasked (unwrap_or (cond b (Some t.root) (option_map unmasked o)) t.root)
           ≡ unmasked (unwrap_or (cond b (Some t.root) o) t.root)
@@ -140,39 +139,34 @@ module _ (t : Tree) where
   rows_bare p = ap (λ x. x.rows) (node_bare p)
 
   pub child_bare : (p d : ℕ) → child_at (one_mask t) p d ≡ option_map unmasked (child_at t p d)
-  child_bare p d = ap (find (λ x. x.born == d)) (filtered (λ x. x.up == p) t.others) ∙ found _ (children t p)
+  child_bare p d = rw (filtered (λ x. x.up == p) t.others, found _ (children t p))
 
   holder_bare : (p g : ℕ) → holder (one_mask t) p g ≡ option_map unmasked (holder t p g)
-  holder_bare p g = ap (find (λ x. holds x g)) (filtered (λ x. x.up == p) t.others) ∙ found _ (children t p)
+  holder_bare p g = rw (filtered (λ x. x.up == p) t.others, found _ (children t p))
 
   hidden_bare : (g : ℕ) → hidden (one_mask t) g ≡ hidden t g
-  hidden_bare g = ap (λ b. has (config t.root) g || b) (any (λ x. has (config x) g) t.others)
+  hidden_bare g = rw (any (λ x. has (config x) g) t.others)
 
   pub reach_bare : (p va : ℕ) (a : Access) (z : Size) → reach (one_mask t) p va a z ≡ reach t p va a z
-  reach_bare p va a z = ap (cond (is_misaligned va z) (Faulted Alignment))
-      (ap (λ rs. reach_by_row (one_mask t) va a (row_at rs (vpage va))) (rows_bare p)
-      ∙ by (row_at (node t p).rows (vpage va)))
+  reach_bare p va a z = rw (rows_bare p, by (row_at (node t p).rows (vpage va)))
     where
       by : (o : Option Row) → reach_by_row (one_mask t) va a o ≡ reach_by_row t va a o
       by None = refl
       by (Some r) = rw (hidden_bare r.frame)
 
   block_bare : (p k : ℕ) → block (one_mask t) p k ≡ block t p k
-  block_bare p k = ap (λ q. block_at (one_mask t) p (word_reached (one_mask t) q)) (reach_bare p
-      (0xfffff000 + 4 * k) Load Word)
-      ∙ at (reach t p (0xfffff000 + 4 * k) Load Word)
+  block_bare p k = rw (reach_bare p (0xfffff000 + 4 * k) Load Word, at (reach t p (0xfffff000 + 4 * k) Load Word))
     where
       by : (o : Option ℕ) → block_at (one_mask t) p o ≡ block_at t p o
       by None = refl
-      by (Some a) = ap (λ q. cond ((a % 4 == 0 && nat_le (a % 4096) 4028) && is_reached q) (Some a) None)
-          (reach_bare p a Load Word)
+      by (Some a) = rw (reach_bare p a Load Word)
 
       at : (q : Reached) → block_at (one_mask t) p (word_reached (one_mask t) q) ≡ block_at t p (word_reached t q)
       at (Place g i) = by (word_reached t (Place g i))
       at (Faulted f) = refl
 
   pub handler_bare : (p k : ℕ) → handler (one_mask t) p k ≡ handler t p k
-  handler_bare p k = ap (handler_at (one_mask t) p) (block_bare p k) ∙ by (block t p k)
+  handler_bare p k = rw (block_bare p k, by (block t p k))
     where
       at : (q : Reached) → context_reached (one_mask t) q ≡ context_reached t q
       at (Place g i) = refl
@@ -180,27 +174,27 @@ module _ (t : Tree) where
 
       by : (o : Option ℕ) → handler_at (one_mask t) p o ≡ handler_at t p o
       by None = refl
-      by (Some a) = ap (context_reached (one_mask t)) (reach_bare p a Load Word) ∙ at (reach t p a Load Word)
+      by (Some a) = rw (reach_bare p a Load Word, at (reach t p a Load Word))
 
   pub place_bare : (p k : ℕ) → save_place (one_mask t) p k ≡ save_place t p k
-  place_bare p k = ap (store_at (one_mask t) p) (block_bare p k) ∙ by (block t p k)
+  place_bare p k = rw (block_bare p k, by (block t p k))
     where
       by : (o : Option ℕ) → store_at (one_mask t) p o ≡ store_at t p o
       by None = refl
       by (Some a) = reach_bare p a Store Word
 
   none_bare : (p d : ℕ) → is_none (child_at (one_mask t) p d) ≡ is_none (child_at t p d)
-  none_bare p d = ap is_none (child_bare p d) ∙ no_node (child_at t p d)
+  none_bare p d = rw (child_bare p d, no_node (child_at t p d))
 
   child_of_bare : (p d : ℕ) → child_of (one_mask t) p d ≡ unmasked (child_of t p d)
-  child_of_bare p d = ap (λ o. unwrap_or o nobody) (child_bare p d) ∙ by (child_at t p d)
+  child_of_bare p d = rw (child_bare p d, by (child_at t p d))
     where
       by : (o : Option Node) → unwrap_or (option_map unmasked o) nobody ≡ unmasked (unwrap_or o nobody)
       by None = refl
       by (Some x) = refl
 
   child_name_bare : (p d : ℕ) → child_name (one_mask t) p d ≡ child_name t p d
-  child_name_bare p d = ap (λ o. unwrap_or (option_map (λ x. x.name) o) 0) (child_bare p d) ∙ by (child_at t p d)
+  child_name_bare p d = rw (child_bare p d, by (child_at t p d))
     where
       by : (o : Option Node) → unwrap_or (option_map (λ x. x.name) (option_map unmasked o)) 0
           ≡ unwrap_or (option_map (λ x. x.name) o) 0
@@ -208,24 +202,24 @@ module _ (t : Tree) where
       by (Some x) = refl
 
   free_bare : (p v : ℕ) → free (one_mask t) p v ≡ free t p v
-  free_bare p v = ap (λ rs. is_free_row (one_mask t) p (row_at rs v)) (rows_bare p) ∙ by (row_at (node t p).rows v)
+  free_bare p v = rw (rows_bare p, by (row_at (node t p).rows v))
     where
       by : (o : Option Row) → is_free_row (one_mask t) p o ≡ is_free_row t p o
       by None = refl
-      by (Some r) = ap is_none (holder_bare p r.frame) ∙ no_node (holder t p r.frame)
+      by (Some r) = rw (holder_bare p r.frame, no_node (holder t p r.frame))
 
   ancestry_bare : (p : ℕ) → ancestry (one_mask t) p ≡ ancestry t p
   ancestry_bare p =
-      sym (names (chain (one_mask t) p)) ∙ ap names_of (ancestors t.root t.others p) ∙ names (chain t p)
+      rw (← names (chain (one_mask t) p), ancestors t.root t.others p, names (chain t p))
 
   below_bare : (c : ℕ) → map unmasked (below (one_mask t) c) ≡ map unmasked (below t c)
   below_bare c = (λ i. map unmasked (filter (λ x. has (ancestry_bare x.name i) c) (nodes (one_mask t))))
-      ∙ by (has (ancestry t t.root.name) c) _ _ (ap (map unmasked) (filtered (λ x. has (ancestry t x.name) c) t.others)
-      ∙ twice (filter (λ x. has (ancestry t x.name) c) t.others))
+      ∙ by (has (ancestry t t.root.name) c) _ _ (rw
+      (filtered (λ x. has (ancestry t x.name) c) t.others, twice (filter (λ x. has (ancestry t x.name) c) t.others)))
     where
       by : (b : Bool) (xs ys : List Node) → map unmasked xs ≡ map unmasked ys
           → map unmasked (cond b (t.root ∷ xs) xs) ≡ map unmasked (cond b (t.root ∷ ys) ys)
-      by true xs ys e = ap (λ l. unmasked t.root ∷ l) e
+      by true xs ys e = rw e
       by false xs ys e = e
 
   -- ---- calls on memory
@@ -237,7 +231,7 @@ module _ (t : Tree) where
     tree : one_mask a.tree ≡ one_mask b.tree
 
   same_tree : one_mask (one_mask t) ≡ one_mask t
-  same_tree = ap (λ xs. record t { others = xs }) (twice t.others)
+  same_tree = rw (twice t.others)
 
   unless : (o q : Option Status) (a b : Answer) → o ≡ q → SameAnswers a b
       → SameAnswers (answer_unless (one_mask t) o a) (answer_unless t q b)
@@ -270,7 +264,7 @@ module _ (t : Tree) where
   )
 
   page_bare : (p a : ℕ) → page_of (one_mask t) p a ≡ page_of t p a
-  page_bare p a = ap (λ rs. unwrap_or (option_map (λ r. r.frame) (row_at rs (vpage a))) 0) (rows_bare p)
+  page_bare p a = rw (rows_bare p)
 
   create_bare : (p : ℕ) (a : Five) → SameAnswers (create_partition (one_mask t) p a) (create_partition t p a)
   create_bare p a = unless _ _ _ _ (create_refused p a)
@@ -291,13 +285,17 @@ module _ (t : Tree) where
       (record {
         status = refl;
         value = refl;
-        tree = ap (λ c. one_mask (tree_without_subtree (one_mask t) c)) (child_name_bare p d) ∙ gone (child_name t p d);
+        tree = cc (child_name_bare p d, gone (child_name t p d));
       })
     where
       runs : some_run rs (below (one_mask t) (child_name (one_mask t) p d)) ≡ some_run rs (below t (child_name t p d))
-      runs = ap (λ c. some_run rs (below (one_mask t) c)) (child_name_bare p d)
-          ∙ sym (any (λ x. has rs x.name) (below (one_mask t) (child_name t p d)))
-          ∙ ap (some_run rs) (below_bare (child_name t p d)) ∙ any (λ x. has rs x.name) (below t (child_name t p d))
+      runs = cc (
+        child_name_bare p d,
+        any (λ x. has rs x.name) (below (one_mask t) (child_name t p d)),
+        below_bare
+            (child_name t p d),
+        any (λ x. has rs x.name) (below t (child_name t p d)),
+      )
 
       gone : (c : ℕ) → one_mask (tree_without_subtree (one_mask t) c) ≡ one_mask (tree_without_subtree t c)
       gone c =
@@ -305,7 +303,7 @@ module _ (t : Tree) where
           ∙ filtered (λ x. not (has (ancestry t x.name) c)) t.others in
           let os = ap (map unmasked) o ∙ twice (filter (λ x. not (has (ancestry t x.name) c)) t.others) in
           let cs = sym (configs (below (one_mask t) c)) ∙ ap (flat_map config) (below_bare c) ∙ configs (below t c) in
-          joined _ _ _ _ _ _ os (ap (λ l. words_cleared l t.words) cs)
+          joined _ _ _ _ _ _ os (rw cs)
 
   count_refused : (p d cv : ℕ) → first_met (count_refusals (one_mask t) p d cv) ≡ first_met (count_refusals t p d cv)
   count_refused p d cv = cc (none_bare p d)
@@ -314,7 +312,7 @@ module _ (t : Tree) where
   count_bare p d cv = unless _ _ _ _ (count_refused p d cv)
       (record {
         status = refl;
-        value = ap (λ x. pages_needed x (vpage cv)) (child_of_bare p d);
+        value = rw (child_of_bare p d);
         tree = same_tree;
       })
 
@@ -323,8 +321,7 @@ module _ (t : Tree) where
       _ _ (cc (rows_bare p))
       (record {
         status = refl;
-        value = ap (λ g. holder_born (holder (one_mask t) p g)) (page_bare p v)
-            ∙ ap holder_born (holder_bare p (page_of t p v)) ∙ by (holder t p (page_of t p v));
+        value = cc (page_bare p v, holder_bare p (page_of t p v), by (holder t p (page_of t p v)));
         tree = same_tree;
       })
     where
@@ -343,7 +340,7 @@ module _ (t : Tree) where
       })
     where
       lent : free (one_mask t) (child_name (one_mask t) p d) (vpage cv) ≡ free t (child_name t p d) (vpage cv)
-      lent = ap (λ n. free (one_mask t) n (vpage cv)) (child_name_bare p d) ∙ free_bare (child_name t p d) (vpage cv)
+      lent = cc (child_name_bare p d, free_bare (child_name t p d) (vpage cv))
 
   add_bare : (p v d cv n : ℕ) → SameAnswers (add_vaddr (one_mask t) p v d cv n) (add_vaddr t p v d cv n)
   add_bare p v d cv n = unless (first_met (add_refusals (one_mask t) p v d cv n)) (first_met
@@ -365,9 +362,9 @@ module _ (t : Tree) where
       (cc (none_bare p d, child_of_bare p d))
       (record {
         status = refl;
-        value = ap first_va gs;
+        value = rw gs;
         tree = rw (child_name_bare p d) (changed (child_name t p d) (without_table (dir (vpage cv))) _ _ (λ x. refl)
-            (ap (λ l. words_with_chain l t.words) gs));
+            (rw gs));
       })
     where
       by : (x : Node) (o : Option Table) → returned_pages (unmasked x) o ≡ returned_pages x o
@@ -376,8 +373,7 @@ module _ (t : Tree) where
 
       gs : returned_pages (child_of (one_mask t) p d) (table_for (child_of (one_mask t) p d) (vpage cv))
           ≡ returned_pages (child_of t p d) (table_for (child_of t p d) (vpage cv))
-      gs = ap (λ x. returned_pages x (table_for x (vpage cv))) (child_of_bare p d)
-          ∙ by (child_of t p d) (table_for (child_of t p d) (vpage cv))
+      gs = rw (child_of_bare p d, by (child_of t p d) (table_for (child_of t p d) (vpage cv)))
 
   chain_bare : (p k : ℕ) (seen : List ℕ) (a : ℕ) → page_chain (one_mask t) p k seen a ≡ page_chain t p k seen a
   chain_bare p zero seen a = refl
@@ -392,7 +388,7 @@ module _ (t : Tree) where
       k = pages_needed (child_of t p d) (vpage cv)
 
       n : pages_needed (child_of (one_mask t) p d) (vpage cv) ≡ k
-      n = ap (λ x. pages_needed x (vpage cv)) (child_of_bare p d)
+      n = rw (child_of_bare p d)
 
       at : (c j : ℕ) (gs : List Pair) → one_mask (tree_with_table (one_mask t) c j gs)
           ≡ one_mask (tree_with_table t c j gs)
@@ -428,7 +424,7 @@ module _ (w : World) where
   still o = record { outcome = refl; tree = same_tree w.tree; cpus = refl }
 
   saved : (c : Ctx) (p k : ℕ) → one_mask (save (one_mask w.tree) p k c) ≡ one_mask (save w.tree p k c)
-  saved c p k = joined _ _ _ _ _ _ (twice w.tree.others) (ap (λ q. (saved_to w.tree c q).words) (place_bare w.tree p k))
+  saved c p k = joined _ _ _ _ _ _ (twice w.tree.others) (rw (place_bare w.tree p k))
 
   -- the nearest taker, where a list of nodes has no masks
   among : (x : World) → ((p k : ℕ) → handler v.tree p k ≡ handler x.tree p k) → running v ≡ running x → (k born : ℕ)
@@ -449,9 +445,12 @@ module _ (w : World) where
   above x h n k (q ∷ qs) = among x h n k q.born qs
 
   taker_bare : (p k : ℕ) → nearest_taker v p k ≡ nearest_taker w p k
-  taker_bare p k = sym (above v (λ q j. refl) refl k (chain v.tree p))
-      ∙ ap (nearest_above v k) (ancestors w.tree.root w.tree.others p)
-      ∙ above w (handler_bare w.tree) refl k (chain w.tree p)
+  taker_bare p k = rw (
+    ← above v (λ q j. refl) refl k (chain v.tree p),
+    ancestors w.tree.root w.tree.others p,
+    above w
+        (handler_bare w.tree) refl k (chain w.tree p),
+  )
 
   delivered : (cpu : ℕ) (r : Occupant) (k a b : ℕ) → Same (deliver v cpu r k a b) (deliver w cpu r k a b)
   delivered cpu r k a b = rw (taker_bare r.name k) (by (nearest_taker w r.name k))
@@ -525,9 +524,7 @@ module _ (w : World) where
           by false false d = rw (child_bare w.tree r.name a.x0) (child (child_at w.tree r.name a.x0))
 
       to : (o q : Option Node) → Names o q → Same (yield_to v cpu r a o) (yield_to w cpu r a q)
-      to o q n = passes _ _ _ _ _ _ refusals n.0 (ap (λ m. handler v.tree m a.x1) n.0
-          ∙ handler_bare w.tree (node_name q)
-          a.x1)
+      to o q n = passes _ _ _ _ _ _ refusals n.0 (cc (n.0, handler_bare w.tree (node_name q) a.x1))
         where
           refusals : first_met (yield_refusals v r.name a o) ≡ first_met (yield_refusals w r.name a q)
           refusals =
@@ -537,8 +534,7 @@ module _ (w : World) where
           tree =
               joined _ _ _ _ _ _ (mapped (masked_node w.tree.root.name
               (cond (r.name == w.tree.root.name) false w.tree.root.masked)) (λ x. refl) w.tree.others)
-              (ap (λ q. (saved_to w.tree (with_zeros r.ctx) (cond (nat_lt a.x2 256) q (Faulted Unmapped))).words)
-              (place_bare w.tree r.name a.x2))
+              (rw (place_bare w.tree r.name a.x2))
 
           by : (n : ℕ) (s : Option Status) (h : Option Ctx)
               → Same (reply_unless v cpu r s (yield_happens v cpu r a n h))
@@ -582,13 +578,13 @@ module _ (w : World) where
           others : (xs : List Node) → map unmasked (map (lines_in w.tree.root.name js) (map (masked_node n true)
               (map unmasked xs))) ≡ map unmasked (map (lines_in w.tree.root.name js) (map (masked_node n true) xs))
           others [] = refl
-          others (x ∷ xs) = ap (λ l. unmasked (lines_in w.tree.root.name js x) ∷ l) (others xs)
+          others (x ∷ xs) = rw (others xs)
 
           by : (o : Option Occupant) → one_mask (with_pending js (with_masked n true (save_running v.tree o)))
               ≡ one_mask (with_pending js (with_masked n true (save_running w.tree o)))
           by None = joined _ _ _ _ _ _ (others w.tree.others) refl
           by (Some r) = joined _ _ _ _ _ _ (others w.tree.others)
-              (ap (λ q. (saved_to w.tree r.ctx q).words) (place_bare w.tree r.name 63))
+              (rw (place_bare w.tree r.name 63))
 
       line : (j : Option ℕ) → Same (poll_line v cpu o j) (poll_line w cpu o j)
       line None = untaken o
@@ -630,7 +626,7 @@ pub bare_alike : (look : ℕ → ℕ → ℕ → ℕ) (t u : Tree) → one_mask 
 bare_alike look t u e = record {
   nodes = ap {A = Tree} (λ x. record x { words = u.words }) e;
   words = λ g. let f = ap (λ x. x.words g) e in
-      record { there = ap is_some f; words = λ i. ap (λ o. look g i (word_of o i)) f };
+      record { there = rw f; words = λ i. rw f };
 }
 
 -- so do they if the mask of a partition that isn't the root is set
@@ -645,10 +641,10 @@ masked_alike look p b t n = bare_alike look (with_masked p b t) t (λ i. record 
   where
     stays : (xs : List Node) → map unmasked (map (masked_node p b) xs) ≡ map unmasked xs
     stays [] = refl
-    stays (x ∷ xs) = ap (λ l. unmasked x ∷ l) (stays xs)
+    stays (x ∷ xs) = rw (stays xs)
 
 -- what is reached is the same in trees that look alike
 pub reach_alike : (look : ℕ → ℕ → ℕ → ℕ) (t u : Tree) (p va : ℕ) (a : Access) (z : Size) → AlikeTrees look t u
     → reach t p va a z ≡ reach u p va a z
 reach_alike look t u p va a z k =
-    sym (reach_bare t p va a z) ∙ ap (λ x. reach x p va a z) k.nodes ∙ reach_bare u p va a z
+    cc (reach_bare t p va a z, k.nodes, reach_bare u p va a z)

@@ -19,7 +19,7 @@ use Rattle.pip_model.specs.Events as E
 use Rattle.pip_model.specs.Events.{Event}
 use Rattle.pip_model.specs.Handlers.{can_save, handler, save, save_place, saved_to}
 use Rattle.pip_model.specs.Happens.{access_number, what_happens, answer, call, call_named, fault_number, fault_vector}
-use Rattle.pip_model.specs.Happens.{load_happens, on_running, read_of, written_over, wrote}
+use Rattle.pip_model.specs.Happens.{load_happens, on_running, written_over, wrote}
 use Rattle.pip_model.specs.Lists.{In, has}
 use Rattle.pip_model.specs.Poll.{lowest_line, may_take, none_taken, occupant_name, poll, poll_line}
 use Rattle.pip_model.specs.Poll.{runs_elsewhere, take_line}
@@ -38,7 +38,6 @@ use Rattle.pip_outside.specs.Outside.{HandlerMisses, HandlersMiss, LoadMisses, M
 use Rattle.pip_outside.specs.Outside.{StoreMisses}
 use Rattle.pip_outside.specs.Outside.{CallMisses, Lands, LinesMiss, OutsideDependsOnOutside, PollMisses, ReadsOutside}
 use Rattle.pip_outside.specs.Outside.{YieldMisses, one_mask}
-use Rattle.pip_model.specs.DeletePartition.{delete_partition}
 use Rattle.pip_model.specs.declared.call_name.MemoryCall.{MemoryCall}
 use Rattle.pip_model.specs.declared.call_name.MemoryCall.TheVariants.{AddVAddr, Collect, CountToMap, CreatePartition}
 use Rattle.pip_model.specs.declared.call_name.MemoryCall.TheVariants.{DeletePartition, MappedInChild, Prepare}
@@ -106,9 +105,7 @@ module _ (own : List ℕ) (look : ℕ → ℕ → ℕ → ℕ) (w : World) (u : 
       → AlikeTakers own (nearest_among w k born qs) (nearest_among v k born qs)
   among_alike k born [] m = tt
   among_alike k born (q ∷ qs) m =
-      subst (λ rs. AlikeTakers own (nearest_among w k born (q ∷ qs))
-      (taker_or (has rs q.name) (handler v.tree q.name k) q born (nearest_among v k q.born qs))) running_same
-      (take_or (has (running w) q.name) q born (handler w.tree q.name k) (handler v.tree q.name k)
+      rw (← running_same) (take_or (has (running w) q.name) q born (handler w.tree q.name k) (handler v.tree q.name k)
       (nearest_among w k q.born qs) (nearest_among v k q.born qs)
       (λ b. handler_same own look w.tree u h q.name k (m.0 b)) (among_alike k q.born qs m.1))
 
@@ -140,7 +137,7 @@ module _ (own : List ℕ) (look : ℕ → ℕ → ℕ → ℕ) (w : World) (u : 
         go None (Some y) l = absurd l
         go (Some x) None l = absurd l
         go (Some x) (Some y) l = record {
-          outcome = ap (λ n. O.Switched r.name n k) l.0;
+          outcome = rw l.0;
           tree = saved 63 m.save;
           cpus = set_alike own w.cpus ds cpu _ _ c
               (l.0, (λ n. let f = l.2 n in let g = l.1 in λ i. handler_context (f i) k a b (g i)));
@@ -149,7 +146,7 @@ module _ (own : List ℕ) (look : ℕ → ℕ → ℕ → ℕ) (w : World) (u : 
     loaded : (va : ℕ) (a : Access) (z : Size) (q : Reached) → LoadMisses own look w r.name q
         → Both own look (load_happens w cpu r va a z q) (load_happens v cpu s va a z q)
     loaded va a z (Place g i) m = record {
-      outcome = ap (λ x. O.Word (read_of va z x)) (m _ _ ((h g).words i));
+      outcome = rw (m _ _ ((h g).words i));
       tree = record { nodes = refl; words = h };
       cpus = c;
     }
@@ -203,8 +200,7 @@ module _ (own : List ℕ) (look : ℕ → ℕ → ℕ → ℕ) (w : World) (u : 
         → AlikeAnswers look (answer k w r.name a) (answer k v r.name a)
     answered a CreatePartition m = create_alike look w.tree u h r.name a
     answered a DeletePartition m =
-        subst (λ rs. AlikeAnswers look (delete_partition w.tree (running w) r.name a.x0)
-        (delete_partition v.tree rs r.name a.x0)) running_same (delete_alike look w.tree u h (running w) r.name a.x0)
+        rw (← running_same) (delete_alike look w.tree u h (running w) r.name a.x0)
     answered a CountToMap m = count_alike look w.tree u h r.name a
     answered a Prepare m = prepare_alike look w.tree u h r.name a m
     answered a Collect m = collect_alike look w.tree u h r.name a
@@ -242,7 +238,7 @@ module _ (own : List ℕ) (look : ℕ → ℕ → ℕ → ℕ) (w : World) (u : 
         x : AlikeTrees look (saved_to w.tree (with_zeros r.ctx) (yield_place w.tree r.name k))
             (saved_to v.tree (with_zeros d) (yield_place v.tree r.name k))
         x = saved_alike own look w.tree u h (with_zeros r.ctx) (with_zeros d) r.name (yield_place w.tree r.name k)
-            (yield_place v.tree r.name k) (λ n. ap with_zeros (e n)) (yield_lands k m) (yield_place_same k m)
+            (yield_place v.tree r.name k) (λ n. rw (e n)) (yield_lands k m) (yield_place_same k m)
 
     entered : (a : Five) (q : ℕ) (x y : Option Ctx) → AlikeHandlers own q x y
         → (nat_lt a.x2 256 ≡ true → SaveMisses own look w.tree r.name a.x2)
@@ -265,7 +261,7 @@ module _ (own : List ℕ) (look : ℕ → ℕ → ℕ → ℕ) (w : World) (u : 
       where
         go : (b : Bool) → nat_lt k 256 ≡ b
             → (b && not (can_save w.tree r.name k)) ≡ (b && not (can_save v.tree r.name k))
-        go true q = ap not (reached_same own look r.name _ _ (place_same own look w.tree u h r.name k (m q).entry))
+        go true q = rw (reached_same own look r.name _ _ (place_same own look w.tree u h r.name k (m q).entry))
         go false q = refl
 
     yield_alike : (a : Five) → YieldMisses own look w r.name a → Both own look (yield w cpu r a) (yield v cpu s a)
@@ -278,14 +274,10 @@ module _ (own : List ℕ) (look : ℕ → ℕ → ℕ → ℕ) (w : World) (u : 
             let z = no_target a in
             subst (λ o. Both own look (reply_unless w cpu r o (yield_happens w cpu r a 0 (handler w.tree 0 a.x1)))
             (yield_to v cpu s a None)) (sym (none_refused w r.name a))
-            (subst (λ o. Both own look (refused_as w cpu r z)
-            (reply_unless v cpu s o (yield_happens v cpu s a 0 (handler v.tree 0 a.x1))))
-            (sym (none_refused v r.name a)) (refused z))
+            (rw (none_refused v r.name a) (refused z))
         go (Some x) t =
             let l = handler_same own look w.tree u h x.name a.x1 (t x refl) in
-            subst (λ o. Both own look (yield_to w cpu r a (Some x)) (reply_unless v cpu s o
-            (yield_happens v cpu s a x.name (handler v.tree x.name a.x1)))) (refusals_same x l)
-            (unless (first_met (yield_refusals w r.name a (Some x))) _ _
+            rw (← refusals_same x l) (unless (first_met (yield_refusals w r.name a (Some x))) _ _
             (entered a x.name (handler w.tree x.name a.x1) (handler v.tree x.name a.x1) l m.save))
           where
             refusals_same : (x : Node)
@@ -337,12 +329,11 @@ module _ (own : List ℕ) (look : ℕ → ℕ → ℕ → ℕ) (w : World) (u : 
       go : (b : Bool) → cond b (Some k) (lowest_line w js) ≡ Some j
           → (lowest_line w js ≡ Some j → HandlerMisses own look w.tree w.tree.root.name (32 + j))
           → HandlerMisses own look w.tree w.tree.root.name (32 + j)
-      go true q f = let d : k ≡ j = cc in subst (λ n. HandlerMisses own look w.tree w.tree.root.name (32 + n)) d m.0
+      go true q f = let d : k ≡ j = cc in rw (← d) m.0
       go false q f = f q
 
   elsewhere_same : (cpu : ℕ) → runs_elsewhere w cpu w.tree.root.name ≡ runs_elsewhere v cpu w.tree.root.name
-  elsewhere_same cpu = ap (λ rs. has rs w.tree.root.name)
-      (names_same own _ _ (set_alike own w.cpus ds cpu None None c tt))
+  elsewhere_same cpu = rw (names_same own _ _ (set_alike own w.cpus ds cpu None None c tt))
 
   may_same : (cpu : ℕ) (o p : Option Occupant) → occupant_name o ≡ occupant_name p
       → may_take w cpu o ≡ may_take v cpu p
@@ -365,13 +356,13 @@ module _ (own : List ℕ) (look : ℕ → ℕ → ℕ → ℕ) (w : World) (u : 
     taken j None (Some y) l = absurd l
     taken j (Some x) None l = absurd l
     taken j (Some x) (Some y) l = record {
-      outcome = ap (λ q. O.Switched q w.tree.root.name (32 + j)) n;
+      outcome = rw n;
       tree = record {
         nodes = lined o p;
         words = k.words;
       };
       cpus = set_alike own w.cpus ds cpu _ _ c
-          (refl, (λ n. ap (λ q. handler_context q (32 + j) 0 0 0) (l n)));
+          (refl, (λ n. rw (l n)));
     }
       where
         lined : (o p : Option Occupant) →
@@ -385,14 +376,11 @@ module _ (own : List ℕ) (look : ℕ → ℕ → ℕ → ℕ) (w : World) (u : 
         lined (Some r) (Some q) = refl
 
     polled : LinesMiss own look w.tree w.tree.root.pending → Both own look (poll w cpu o) (poll v cpu p)
-    polled m = subst (λ b. Both own look (poll w cpu o) (cond b (poll_line v cpu p (lowest_line v w.tree.root.pending))
-        (none_taken v p))) (may_same cpu o p n)
-        (go (may_take w cpu o))
+    polled m = rw (← may_same cpu o p n) (go (may_take w cpu o))
       where
         line : Both own look (poll_line w cpu o (lowest_line w w.tree.root.pending))
             (poll_line v cpu p (lowest_line v w.tree.root.pending))
-        line = subst (λ x. Both own look (poll_line w cpu o (lowest_line w w.tree.root.pending)) (poll_line v cpu p x))
-            (line_same w.tree.root.pending m) (at (lowest_line w w.tree.root.pending) refl)
+        line = rw (← line_same w.tree.root.pending m) (at (lowest_line w w.tree.root.pending) refl)
           where
             at : (x : Option ℕ) → lowest_line w w.tree.root.pending ≡ x
                 → Both own look (poll_line w cpu o x) (poll_line v cpu p x)
@@ -423,7 +411,7 @@ module _ (own : List ℕ) (look : ℕ → ℕ → ℕ → ℕ) (w : World) (u : 
   by_runner cpu None (Some q) P f g a b k = absurd a
   by_runner cpu (Some r) None P f g a b k = absurd a
   by_runner cpu (Some r) (Some q) P f g a b k =
-      subst (λ z. Both own look (f r) (g z)) (as_there r q a.0) (k r q.ctx a.1 b)
+      rw (← as_there r q a.0) (k r q.ctx a.1 b)
 
   poll_both : (cpu : ℕ) (o p : Option Occupant) → AlikeOn own o p → PollMisses own look w o
       → Both own look (poll w cpu o) (poll v cpu p)
@@ -431,8 +419,8 @@ module _ (own : List ℕ) (look : ℕ → ℕ → ℕ → ℕ) (w : World) (u : 
   poll_both cpu None (Some q) a m = absurd a
   poll_both cpu (Some r) None a m = absurd a
   poll_both cpu (Some r) (Some q) a m =
-      subst (λ z. Both own look (poll w cpu (Some r)) (poll v cpu (Some z))) (as_there r q a.0)
-      (polled cpu (Some r) (Some (record r { ctx = q.ctx })) (refl, a.1) refl (saved cpu r q.ctx a.1 63 m.save) m.lines)
+      rw (← as_there r q a.0) (polled cpu (Some r) (Some (record r { ctx = q.ctx })) (refl, a.1) refl
+      (saved cpu r q.ctx a.1 63 m.save) m.lines)
 
   -- ---- an event
 
@@ -454,7 +442,7 @@ module _ (own : List ℕ) (look : ℕ → ℕ → ℕ → ℕ) (w : World) (u : 
       (λ r d e k.
       subst (λ x. Both own look (load_happens w cpu r r.ctx.pc Fetch Word (reach w.tree r.name r.ctx.pc Fetch Word))
       (load_happens v cpu (record r { ctx = d }) x Fetch Word (reach w.tree r.name x Fetch Word)))
-      (ap (λ x. x.pc) (e k.0))
+      (rw (e k.0))
       (loaded cpu r d e r.ctx.pc Fetch Word (reach w.tree r.name r.ctx.pc Fetch Word) k.1))
   moved (E.Trap cpu k a b) m = by_runner cpu (runs_on w cpu) (runs_on v cpu) _
       (λ r. deliver w cpu r k a b) (λ r. deliver v cpu r k a b) (at cpu) m (λ r d e l. delivered cpu r d e k a b l)
@@ -483,14 +471,14 @@ outside_depends_on_outside own look w v e a m =
     let from = masks_tell_nothing u e in
     let to = masks_tell_nothing v e in
     let over : ◌≡◌ {A = World} (record u { tree = one_mask u.tree }) (record v { tree = one_mask v.tree }) =
-    ap (λ t. record v { tree = t }) a.tree.nodes in
+    rw a.tree.nodes in
     let same = ap (λ x. what_happens x e) over in
     let tree = sym from.tree ∙ ap (λ h. one_mask h.world.tree) same ∙ to.tree in
     let cpus = sym from.cpus ∙ ap (λ h. h.world.cpus) same ∙ to.cpus in
     record {
-      outcome = b.outcome ∙ sym from.outcome ∙ ap (λ h. h.outcome) same ∙ to.outcome;
+      outcome = rw (b.outcome, ← from.outcome, same, to.outcome);
       world = record {
         tree = trees_on look _ _ _ b.tree (bare_alike look _ _ tree);
-        cpus = subst (AlikeCpus own (what_happens w e).world.cpus) cpus b.cpus;
+        cpus = rw (← cpus) b.cpus;
       };
     }

@@ -1,11 +1,11 @@
 -- Where all of each word is seen, every event reads outside: the premise of the law can be met.
-use Rattle.std.proofs.Common.{ℕ, zero, suc, ◌+◌, List, [], ◌∷◌, ap, inl, Option, Some, None}
+use Rattle.std.proofs.Common.{ℕ, zero, suc, ◌+◌, List, [], ◌∷◌, inl, Option, Some, None}
 use Rattle.pip_base.specs.declared.types.Size.{Size}
 use Rattle.pip_model.specs.Answers.{Five, child_of}
 use Rattle.pip_model.specs.CountToMap.{pages_needed}
 use Rattle.pip_model.specs.Events.{Event}
 use Rattle.pip_model.specs.Events as E
-use Rattle.pip_model.specs.Happens.{call_named, fault_vector, written_over}
+use Rattle.pip_model.specs.Happens.{call_named, fault_vector}
 use Rattle.pip_model.specs.Prepare.{next_in_chain}
 use Rattle.pip_model.specs.Reach.{Faulted, Place, Reached}
 use Rattle.pip_model.specs.Tree.{Node, Tree, chain, vpage}
@@ -53,7 +53,7 @@ load_misses w p (Place g i) = λ x y e. e
 load_misses w p (Faulted f) = delivery_misses w p (fault_vector f)
 
 store_misses : (w : World) (p va : ℕ) (z : Size) (q : Reached) → StoreMisses [] whole_word w p va z q
-store_misses w p va z (Place g i) = λ n x y e. ap (written_over va z n) e
+store_misses w p va z (Place g i) = λ n x y e. rw e
 store_misses w p va z (Faulted f) = delivery_misses w p (fault_vector f)
 
 chain_misses : (t : Tree) (p k : ℕ) (seen : List ℕ) (a : ℕ) → ChainMisses whole_word t p k seen a

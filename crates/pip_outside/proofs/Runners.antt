@@ -1,8 +1,7 @@
 -- What runs on processors in two worlds that look alike.
 use Rattle.std.proofs.Common.{◌≡◌, ℕ, zero, suc, List}
-use Rattle.std.proofs.Common.{[], ◌∷◌, length, refl, sym, ap, ◌∙◌, subst, Option, Some, None}
+use Rattle.std.proofs.Common.{[], ◌∷◌, length, refl, sym, Option, Some, None}
 use Rattle.std.specs.Prelude.{slice_set}
-use Rattle.pip_model.specs.Lists.{In}
 use Rattle.pip_model.specs.declared.processors.Occupant.{Occupant}
 use Rattle.pip_model.proofs.Events.Soundness.{at_cpu, names_at}
 use Rattle.pip_outside.specs.Outside.{AlikeCpus, AlikeOn}
@@ -15,13 +14,13 @@ names_same own (None ∷ os) (None ∷ ps) a = names_same own os ps a.1
 names_same own (None ∷ os) (Some q ∷ ps) a = absurd a.0
 names_same own (Some r ∷ os) (None ∷ ps) a = absurd a.0
 names_same own (Some r ∷ os) (Some q ∷ ps) a =
-    ap (λ n. n ∷ names_at os) a.0.0 ∙ ap (λ l. q.name ∷ l) (names_same own os ps a.1)
+    rw (a.0.0, names_same own os ps a.1)
 
 pub count_same : (own : List ℕ) (os ps : List (Option Occupant)) → AlikeCpus own os ps → length os ≡ length ps
 count_same own [] [] a = refl
 count_same own [] (p ∷ ps) a = absurd a
 count_same own (o ∷ os) [] a = absurd a
-count_same own (o ∷ os) (p ∷ ps) a = ap suc (count_same own os ps a.1)
+count_same own (o ∷ os) (p ∷ ps) a = rw (count_same own os ps a.1)
 
 pub at_alike : (own : List ℕ) (os ps : List (Option Occupant)) (i : ℕ) → AlikeCpus own os ps
     → AlikeOn own (at_cpu os i) (at_cpu ps i)
@@ -52,7 +51,7 @@ pub on_alike_back : (own : List ℕ) (o p : Option Occupant) → AlikeOn own o p
 on_alike_back own None None a = tt
 on_alike_back own None (Some q) a = absurd a
 on_alike_back own (Some r) None a = absurd a
-on_alike_back own (Some r) (Some q) a = (sym a.0, (λ n. sym (a.1 (λ i. n (subst (λ x. In x own) a.0 i)))))
+on_alike_back own (Some r) (Some q) a = (sym a.0, (λ n. sym (a.1 (λ i. n (rw (← a.0) i)))))
 
 pub cpus_alike_back : (own : List ℕ) (os ps : List (Option Occupant)) → AlikeCpus own os ps → AlikeCpus own ps os
 cpus_alike_back own [] [] a = tt

@@ -1,7 +1,7 @@
 -- What is read of a tree, and what is saved to it, where words differ in what isn't seen of them.
 use Rattle.std.proofs.Common.{◌≡◌, ℕ, zero, suc, ◌+◌, ◌-◌, ◌%◌, ◌==◌, ◌&&◌, ◌<◌, ◌≤◌, ◌⊎◌, inl, inr, Bool, true, false}
 use Rattle.std.proofs.Common.{cond}
-use Rattle.std.proofs.Common.{List, ◌∷◌, refl, sym, ap, ap₂, ◌∙◌, subst, arith, Option, Some, None, eqb-true}
+use Rattle.std.proofs.Common.{List, ◌∷◌, refl, ap₂, subst, arith, Option, Some, None, eqb-true}
 use Rattle.std.specs.Prelude.{is_some, nat_le, nat_lt, option_map}
 use Rattle.std.proofs.lemmas.Bool.{leb-true, ltb-true}
 use Rattle.pip_base.specs.declared.types.Access.TheVariants.{Load}
@@ -28,12 +28,12 @@ AlikeHandlers own p (Some c) (Some d) = (In p own → ⊥) → c ≡ d
 words_same : (n i : ℕ) (x y : ℕ → ℕ) → ((j : ℕ) → i ≤ j → j < i + n → x j ≡ y j) → words_from n x i ≡ words_from n y i
 words_same zero i x y f = refl
 words_same (suc n) i x y f = ap₂ (λ a l. a ∷ l) (f i (omega arith) (omega arith))
-    (words_same n (i + 1) x y (λ j l k. f j (omega (arith, l)) (omega (arith, k))))
+    (words_same n (i + 1) x y (λ j l k. f j (omega arith) (omega arith)))
 
 contexts_same : (x y : ℕ → ℕ) (i : ℕ) → ((j : ℕ) → i ≤ j → j < i + 17 → x j ≡ y j) → context_in x i ≡ context_in y i
 contexts_same x y i f =
     let pc = f i (omega arith) (omega arith) in
-    let rs = words_same 16 (i + 1) x y (λ j l k. f j (omega (arith, l)) (omega (arith, k))) in
+    let rs = words_same 16 (i + 1) x y (λ j l k. f j (omega arith) (omega arith)) in
     λ n. record { pc = pc n; regs = rs n }
 
 -- a block can be loaded
@@ -65,7 +65,7 @@ AlikePlaces own look p q r = (q ≡ r) ⊎ (In p own × BothLand look q r)
 -- both can be saved to, or neither
 pub reached_same : (own : List ℕ) (look : ℕ → ℕ → ℕ → ℕ) (p : ℕ) (q r : Reached) → AlikePlaces own look p q r
     → is_reached q ≡ is_reached r
-reached_same own look p q r (inl e) = ap is_reached e
+reached_same own look p q r (inl e) = rw e
 reached_same own look p (Place g i) (Place h j) (inr b) = refl
 reached_same own look p (Place g i) (Faulted f) (inr b) = absurd b.1
 reached_same own look p (Faulted f) (Place h j) (inr b) = absurd b.1
@@ -84,7 +84,7 @@ landed_word look c g (Place n i) x j l = test (n == g) (nat_le i j) (nat_lt j (i
     test true false z ea eb ez = refl
     test true true false ea eb ez = refl
     test true true true ea eb ez =
-        l i (ap (λ m. Place m i) (eqb-true n g ea)) (leb-true i j eb) (ltb-true j (i + 17) ez)
+        l i (rw (eqb-true n g ea)) (leb-true i j eb) (ltb-true j (i + 17) ez)
 
 pub lands_word : (look : ℕ → ℕ → ℕ → ℕ) (c : Ctx) (g : ℕ) (q : Reached) → Lands look q → (x : ℕ → ℕ) (j : ℕ)
     → look g j (written_block c g q x j) ≡ look g j (x j)
@@ -104,7 +104,7 @@ module _ (own : List ℕ) (look : ℕ → ℕ → ℕ → ℕ) (t : Tree) (u : �
         → P (block_at t p (word_reached t q)) (block_at other p (word_reached other q))
     entry_same p (Faulted f) P m one two = one None
     entry_same p (Place g i) P m one two = elim (m (word_of (u g) i) ((h g).words i)) [
-      | inl e ↦ subst (λ y. P (block_at t p (Some (word_of (t.words g) i))) (block_at t p (Some y))) e (one _)
+      | inl e ↦ rw (← e) (one _)
       | inr b ↦ two _ _ b.0 b.1
     ]
 
@@ -120,7 +120,7 @@ module _ (own : List ℕ) (look : ℕ → ℕ → ℕ → ℕ) (t : Tree) (u : �
         → BlockMisses look (block_place t p b))
         → AlikeHandlers own p (handler_at t p b) (handler_at other p c)) m.entry at
         (λ x y i b n. both i (handler_at t p (block_at t p (Some x))) (handler_at other p (block_at t p (Some y)))
-        (handled t p (Some x) ∙ b.block ∙ sym (handled other p (Some y)))) m.block
+        (rw (handled t p (Some x), b.block, ← handled other p (Some y)))) m.block
       where
         at : (b : Option ℕ) → ((In p own → ⊥) → BlockMisses look (block_place t p b))
             → AlikeHandlers own p (handler_at t p b) (handler_at other p b)
@@ -170,7 +170,7 @@ module _ (own : List ℕ) (look : ℕ → ℕ → ℕ → ℕ) (t : Tree) (u : �
         -- nothing is seen of either
         twice : In p own → Lands look r
         twice i = elim s [
-          | inl f ↦ subst (Lands look) f (l i)
+          | inl f ↦ rw (← f) (l i)
           | inr b ↦ second q r b.1
         ]
           where
@@ -188,7 +188,7 @@ module _ (own : List ℕ) (look : ℕ → ℕ → ℕ → ℕ) (t : Tree) (u : �
                 → look g j (written_block c g q x j) ≡ look g j (written_block d g r y j)
             by true b =
                 let i = has_in p own b in
-                lands_word look c g q (l i) x j ∙ k ∙ sym (lands_word look d g r (twice i) y j)
+                rw (lands_word look c g q (l i) x j, k, ← lands_word look d g r (twice i) y j)
             by false b = once (λ i. not_in b (in_has p own i)) x y j k
 
         at : (o z : Option (ℕ → ℕ)) → is_some o ≡ is_some z

@@ -1,7 +1,6 @@
 -- What stays inside is seen by nobody.
-use Rattle.std.proofs.Common.{◌≡◌, ℕ, ◌==◌, Bool, true, false, cond, List, refl, sym, ap, ◌∙◌, subst}
+use Rattle.std.proofs.Common.{◌≡◌, ℕ, ◌==◌, Bool, true, false, cond, List, refl, sym, subst}
 use Rattle.std.proofs.Common.{eqb-true, Option, Some, None}
-use Rattle.std.specs.Prelude.{is_some}
 use Rattle.pip_base.specs.declared.outcome.Status.{Status}
 use Rattle.pip_base.specs.declared.outcome.Status.TheVariants as S
 use Rattle.pip_base.specs.declared.types.Access.{Access}
@@ -24,7 +23,7 @@ use Rattle.pip_model.specs.Worlds.{Happened, World, done, runs_on, with_masked, 
 use Rattle.pip_model.specs.declared.call_name.CallName.{CallName}
 use Rattle.pip_model.specs.declared.call_name.CallName.TheVariants.{Masks, OnMemory, Unknown, Yields}
 use Rattle.pip_model.specs.declared.processors.Occupant.{Occupant}
-use Rattle.pip_outside.specs.Outside.{Alike, AlikeCpus, AlikeOn, AlikeTrees, AlikeWord}
+use Rattle.pip_outside.specs.Outside.{Alike, AlikeCpus, AlikeTrees, AlikeWord}
 use Rattle.pip_outside.specs.Unseen.{Answers, ByOneOf, GoesTo, StaysThere, IsUnseen, UnseenIsUnseen}
 use Rattle.pip_outside.proofs.Alikes.{alike_same, tree_alike_same, word_alike_same}
 use Rattle.pip_outside.proofs.Runners.{cpus_alike_same, set_one}
@@ -44,8 +43,7 @@ module _ (own : List ℕ) (look : ℕ → ℕ → ℕ → ℕ) (w : World) (cpu 
   goes_on r x t i k a = record {
     tree = a;
     cpus = set_one own w.cpus w.cpus cpu (Some (record r { ctx = x })) (cpus_alike_same own w.cpus)
-        (subst (λ o. AlikeOn own (Some (record r { ctx = x })) o) (sym k)
-        (refl, (λ n. absurd (n i))));
+        (rw k (refl, (λ n. absurd (n i))));
   }
 
   loads : (r : Occupant) (va : ℕ) (a : Access) (z : Size) (q : Reached) → Answers q
@@ -74,7 +72,7 @@ module _ (own : List ℕ) (look : ℕ → ℕ → ℕ → ℕ) (w : World) (cpu 
       at k true e =
           let s = eqb-true k g e in
           record {
-            there = sym (ap (λ y. is_some (w.tree.words y)) s ∙ m.1);
+            there = rw (← m.1, ← s);
             words = λ j. rw s (word j (j == i) refl);
           }
 
@@ -98,8 +96,7 @@ module _ (own : List ℕ) (look : ℕ → ℕ → ℕ → ℕ) (w : World) (cpu 
       by None n (Some c) m e = record {
         tree = e;
         cpus = set_one own w.cpus w.cpus cpu (Some (record { name = n; ctx = c })) (cpus_alike_same own w.cpus)
-            (subst (λ o. AlikeOn own (Some (record { name = n; ctx = c })) o) (sym k)
-            (m, (λ f. absurd (f (subst (λ x. In x own) (sym m) i)))));
+            (rw k (m, (λ f. absurd (f (subst (λ x. In x own) (sym m) i)))));
       }
 
   calls : (r : Occupant) (c : CallName) (a : Five) → In r.name own → runs_on w cpu ≡ Some r
@@ -122,7 +119,7 @@ stays : (own : List ℕ) (look : ℕ → ℕ → ℕ → ℕ) (w : World) (e : E
 stays own look w e m = go e m
   where
     wrap : (cpu : ℕ) (x : World) → As own look w cpu x → Alike own look x w
-    wrap cpu x a = record { tree = a.tree; cpus = a.cpus }
+    wrap cpu x a = assumption
 
     go : (e : Event) → IsUnseen own look w e → Alike own look (what_happens w e).world w
     go (E.Load cpu va z) m = wrap cpu _ (by_one own look w cpu (runs_on w cpu) _
@@ -150,4 +147,4 @@ stays own look w e m = go e m
         (λ r i k h. goes_on own look w cpu r c w.tree i k (tree_alike_same look w.tree)))
 
 pub unseen_is_unseen : UnseenIsUnseen
-unseen_is_unseen own look w e m = let a = stays own look w e m in record { tree = a.tree; cpus = a.cpus }
+unseen_is_unseen own look w e m = let a = stays own look w e m in assumption

@@ -1,7 +1,7 @@
 -- The test of an event says that it reads nothing that is left out, and that of a partition that it is confined.
 use Rattle.std.proofs.Common.{◌≡◌, ℕ, zero, suc, ◌+◌, ◌<◌, ◌≤◌, ◌==◌, ◌&&◌, ◌||◌, ◌⊎◌, inl, inr, not, cond, Bool}
 use Rattle.std.proofs.Common.{true}
-use Rattle.std.proofs.Common.{false, List, [], ◌∷◌, length, refl, sym, ap, ◌∙◌, subst, arith, eq-eqb, Option, Some}
+use Rattle.std.proofs.Common.{false, List, [], ◌∷◌, length, refl, arith, eq-eqb, Option, Some}
 use Rattle.std.proofs.Common.{None}
 use Rattle.std.specs.Prelude.{◌-◌, find, nat_lt}
 use Rattle.std.proofs.lemmas.Bool.{cases_eq, ltb-true}
@@ -59,12 +59,12 @@ pub not_both : (a : Bool) → a ≡ false → a ≡ true → ⊥
 not_both a e f = cc
 
 pub all_are : (f : ℕ → Bool) (n i : ℕ) → T.all_from f n i ≡ true → (j : ℕ) → i ≤ j → j < i + n → f j ≡ true
-all_are f zero i e j l k = absurd (omega (arith, l, k))
+all_are f zero i e j l k = absurd (omega arith)
 all_are f (suc n) i e j l k =
     let h = both (f i) (T.all_from f n (i + 1)) e in
     elim (cases_eq i j) [
-      | inl d ↦ ap f (sym d) ∙ h.0
-      | inr d ↦ all_are f n (i + 1) h.1 j (omega (arith, l, d)) (omega (arith, k))
+      | inl d ↦ rw (← d, h.0)
+      | inr d ↦ all_are f n (i + 1) h.1 j (omega arith) (omega arith)
     ]
 
 needed_few : (x : Node) (v : ℕ) → pages_needed x v ≤ 4
@@ -144,10 +144,10 @@ module _ (own : List ℕ) (look : ℕ → ℕ → ℕ → ℕ) (s : Sight) (is :
       → ChainMisses look t p n seen a
   chain_misses t p k zero seen a l e = tt
   chain_misses t p k (suc zero) seen a l e = tt
-  chain_misses t p zero (suc (suc n)) seen a l e = absurd (omega (arith, l))
+  chain_misses t p zero (suc (suc n)) seen a l e = absurd (omega arith)
   chain_misses t p (suc k) (suc (suc n)) seen a l e =
       let h = both _ _ e in
-      (is.seen _ _ h.0, chain_misses t p k (suc n) (a ∷ seen) (next_in_chain t p a) (omega (arith, l)) h.1)
+      (is.seen _ _ h.0, chain_misses t p k (suc n) (a ∷ seen) (next_in_chain t p a) (omega arith) h.1)
 
   memory_misses : (t : Tree) (p : ℕ) (a : Five) (c : MemoryCall) → S.memory_passes s t p a c ≡ true
       → MemoryMisses look t p a c
@@ -166,7 +166,7 @@ module _ (own : List ℕ) (look : ℕ → ℕ → ℕ → ℕ) (s : Sight) (is :
       → HandlerMisses own look t x.name k
   target_misses t k None e x q = cc
   target_misses t k (Some y) e x q = let d : y ≡ x = cc in
-      subst (λ z. HandlerMisses own look t z.name k) d (handler_misses t y.name k e)
+      rw (← d) (handler_misses t y.name k e)
 
   call_misses : (w : World) (p : ℕ) (a : Five) (c : CallName) → S.call_passes own s w.tree p a c ≡ true
       → CallMisses own look w p a c
@@ -238,14 +238,14 @@ is_but own blind = record {
 
     same : (b : Bool) (x y : ℕ) (f : ℕ → ℕ) → cond b 0 x ≡ cond b 0 y → cond b 0 (f x) ≡ cond b 0 (f y)
     same true x y f k = refl
-    same false x y f k = ap f k
+    same false x y f k = rw k
 
 pub sights_pass : SightsPass
 sights_pass own look s w e is k = reads own look s is w e k
 
 none_found : {A : Type 0} (f : A → Bool) (xs : List A) → nat_lt (length xs) 1 ≡ true → find f xs ≡ None
 none_found f [] e = refl
-none_found f (x ∷ xs) e = let l = ltb-true (suc (length xs)) 1 e in absurd (omega (arith, l))
+none_found f (x ∷ xs) e = let l = ltb-true (suc (length xs)) 1 e in absurd (omega arith)
 
 -- a hostile partition that runs is confined
 pub confined : (own : List ℕ) (w : World) (cpu : ℕ) (r : Occupant) → IsSoundWorld w → runs_on w cpu ≡ Some r

@@ -5,7 +5,7 @@ use Rattle.pip_base.specs.declared.outcome.Outcome.TheVariants as O
 use Rattle.pip_base.specs.declared.types.Access.TheVariants.{Fetch}
 use Rattle.pip_base.specs.declared.types.Ctx.{Ctx}
 use Rattle.pip_base.specs.declared.types.Size.TheVariants.{Word}
-use Rattle.pip_model.specs.Acts.{Makes, Writes, after_acts, events_made}
+use Rattle.pip_model.specs.Acts.{Makes, events_made}
 use Rattle.pip_model.specs.Effects.{at_next, word_effect}
 use Rattle.pip_model.specs.Events.{Event}
 use Rattle.pip_model.specs.Events as E
@@ -14,7 +14,7 @@ use Rattle.pip_model.specs.InstrRead.{instr_of}
 use Rattle.pip_model.specs.Lists.{In}
 use Rattle.pip_model.specs.Local.{Succeeded}
 use Rattle.pip_model.specs.Reach.{reach}
-use Rattle.pip_model.specs.Turn.{acts_after_fetch, acts_after_poll, arguments, call_line, effect_acts, fetch_acts}
+use Rattle.pip_model.specs.Turn.{acts_after_fetch, acts_after_poll, arguments, effect_acts, fetch_acts}
 use Rattle.pip_model.specs.Turn.{load_acts, move_acts, outcome_of, store_acts, turn, word_acts, world_of}
 use Rattle.pip_model.specs.Worlds.{World, runs_on}
 use Rattle.pip_model.specs.declared.effect.Effect.{Effect}
@@ -36,7 +36,7 @@ runs_alike own look w v cpu a = at_alike own w.cpus v.cpus cpu a.cpus
 pub runs_there : (own : List ℕ) (look : ℕ → ℕ → ℕ → ℕ) (w v : World) (cpu : ℕ) (r : Occupant) → Alike own look w v
     → (In r.name own → ⊥) → runs_on w cpu ≡ Some r → runs_on v cpu ≡ Some r
 runs_there own look w v cpu r a n k =
-    go (runs_on v cpu) (subst (λ o. AlikeOn own o (runs_on v cpu)) k (runs_alike own look w v cpu a))
+    go (runs_on v cpu) (rw (← k) (runs_alike own look w v cpu a))
   where
     go : (o : Option Occupant) → AlikeOn own (Some r) o → o ≡ Some r
     go None l = absurd l
@@ -46,7 +46,7 @@ pub idle_there : (own : List ℕ) (look : ℕ → ℕ → ℕ → ℕ) (w v : Wo
     → runs_on w cpu ≡ None
     → runs_on v cpu ≡ None
 idle_there own look w v cpu a k =
-    go (runs_on v cpu) (subst (λ o. AlikeOn own o (runs_on v cpu)) k (runs_alike own look w v cpu a))
+    go (runs_on v cpu) (rw k at (runs_alike own look w v cpu a))
   where
     go : (o : Option Occupant) → AlikeOn own None o → o ≡ None
     go None l = refl
@@ -62,8 +62,7 @@ all_alike own look (e ∷ es) w v a m =
 -- what is done where a partition runs
 pub fetch_by : (w : World) (cpu : ℕ) (r : Occupant) → runs_on w cpu ≡ Some r → what_happens w (E.Fetch cpu)
     ≡ load_happens w cpu r r.ctx.pc Fetch Word (reach w.tree r.name r.ctx.pc Fetch Word)
-fetch_by w cpu r k = ap (λ o. on_running w cpu o
-    (λ r. load_happens w cpu r r.ctx.pc Fetch Word (reach w.tree r.name r.ctx.pc Fetch Word))) k
+fetch_by w cpu r k = rw k
 
 -- a fetch that gives a word leaves the tree and what runs
 pub fetch_stays : (w : World) (cpu u : ℕ) (r : Occupant) → runs_on w cpu ≡ Some r
@@ -71,15 +70,18 @@ pub fetch_stays : (w : World) (cpu u : ℕ) (r : Occupant) → runs_on w cpu ≡
 fetch_stays w cpu u r k e =
     let l = fetch_by w cpu r k in
     let q = ap (λ h. h.outcome) (sym l) ∙ e in
-    ap (λ h. h.world) l ∙ loaded_world w cpu r r.ctx.pc Fetch Word (reach w.tree r.name r.ctx.pc Fetch Word)
-    (subst Succeeded (sym q) tt)
+    rw (
+      l,
+      loaded_world w cpu r r.ctx.pc Fetch Word (reach w.tree r.name r.ctx.pc Fetch Word)
+          (subst Succeeded (sym q) tt),
+    )
 
 -- nothing is fetched where nothing runs
 fetch_idle : (w : World) (cpu u : ℕ) → runs_on w cpu ≡ None → outcome_of w (E.Fetch cpu) ≡ O.Word u → ⊥
 fetch_idle w cpu u k e =
     let d = ap (λ o. (on_running w cpu o
     (λ r. load_happens w cpu r r.ctx.pc Fetch Word (reach w.tree r.name r.ctx.pc Fetch Word))).outcome) k in
-    let idle : O.Idle ≡ O.Word u = sym d ∙ e in cc
+    let idle : O.Idle ≡ O.Word u = cc in cc
 
 module _ (own : List ℕ) (look : ℕ → ℕ → ℕ → ℕ) (cpu t : ℕ) where
   -- the outcome of an event after another
@@ -105,20 +107,19 @@ module _ (own : List ℕ) (look : ℕ → ℕ → ℕ → ℕ) (cpu t : ℕ) whe
   effect_alike w v x (F.Interrupts j) k m =
       let a = E.SetContext cpu (at_next x) in
       let e = E.Trap cpu j 0 0 in
-      ap (λ o. Makes a ∷ Makes e ∷ move_acts t cpu o) (second w v a e k m.0 m.1.0)
+      rw (second w v a e k m.0 m.1.0)
   effect_alike w v x (F.Calls n) k m =
       let a = E.SetContext cpu (at_next x) in
       let e = E.Call cpu n (arguments x) in
-      ap (λ o. Makes a ∷ Makes e ∷ Writes (call_line t cpu n o) ∷ []) (second w v a e k m.0 m.1.0)
+      rw (second w v a e k m.0 m.1.0)
 
   word_alike : (w v : World) (u : ℕ) (o : Option Occupant) → runs_on w cpu ≡ o
       → ((r : Occupant) → o ≡ Some r → In r.name own → ⊥) → Alike own look w v
       → AllReadOutside own look w (events_made (word_acts w t cpu u o))
       → word_acts w t cpu u o ≡ word_acts v t cpu u (runs_on v cpu)
-  word_alike w v u None k n a m = sym (ap (word_acts v t cpu u) (idle_there own look w v cpu a k))
+  word_alike w v u None k n a m = cc (idle_there own look w v cpu a k)
   word_alike w v u (Some r) k n a m =
-      effect_alike w v r.ctx (word_effect r.ctx u (instr_of u)) a m
-      ∙ sym (ap (word_acts v t cpu u) (runs_there own look w v cpu r a (n r refl) k))
+      cc (effect_alike w v r.ctx (word_effect r.ctx u (instr_of u)) a m, runs_there own look w v cpu r a (n r refl) k)
 
   -- what was fetched is that of a partition outside
   outside : (w : World) (u : ℕ) (o : Option Occupant) → runs_on w cpu ≡ o
@@ -129,14 +130,13 @@ module _ (own : List ℕ) (look : ℕ → ℕ → ℕ → ℕ) (cpu t : ℕ) whe
       let f = subst (λ o. ByRunner o (λ r. (In r.name own
       → ⊥) × LoadMisses own look w r.name (reach w.tree r.name r.ctx.pc Fetch Word))) k m in
       λ r h i.
-      let d : Some q ≡ Some r = sym k ∙ sym (ap (λ x. runs_on x cpu) (fetch_stays w cpu u q k e)) ∙ h in
+      let d : Some q ≡ Some r = rw (← k, ← fetch_stays w cpu u q k e, h) in
       let same : q ≡ r = cc in
-      f.0 (subst (λ z. In z own) (ap (λ z. z.name) (sym same)) i)
+      f.0 (rw same i)
 
   fetch_alike : (w v : World) → Alike own look w v → AllReadOutside own look w (events_made (fetch_acts w t cpu))
       → fetch_acts w t cpu ≡ fetch_acts v t cpu
-  fetch_alike w v a m = ap (λ l. Makes (E.Fetch cpu) ∷ l)
-      (go (outcome_of w (E.Fetch cpu)) refl m.1 ∙ ap (acts_after_fetch there t cpu) z.outcome)
+  fetch_alike w v a m = rw (go (outcome_of w (E.Fetch cpu)) refl m.1, z.outcome)
     where
       here : World
       here = world_of w (E.Fetch cpu)
@@ -159,8 +159,7 @@ module _ (own : List ℕ) (look : ℕ → ℕ → ℕ → ℕ) (cpu t : ℕ) whe
       go O.Idle e n = refl
 
   turn_acts : (w v : World) → Alike own look w v → TurnReadsOutside own look w cpu t → turn w cpu t ≡ turn v cpu t
-  turn_acts w v a m = ap (λ l. Makes (E.Poll cpu) ∷ l)
-      (go (outcome_of w (E.Poll cpu)) m.1 ∙ ap (acts_after_poll there t cpu) z.outcome)
+  turn_acts w v a m = rw (go (outcome_of w (E.Poll cpu)) m.1, z.outcome)
     where
       here : World
       here = world_of w (E.Poll cpu)
@@ -186,7 +185,7 @@ turns_depend_on_outside own look w v cpu step a m =
     let l = all_alike own look (events_made (turn w cpu step)) w v a m in
     record {
       acts = same;
-      world = subst (λ x. Alike own look x (after_acts v (turn v cpu step))) (sym (after-events w (turn w cpu step)))
+      world = rw (after-events w (turn w cpu step))
           (subst (Alike own look (after w (events_made (turn w cpu step))))
           (ap (λ acts. after v (events_made acts)) same ∙ sym (after-events v (turn v cpu step))) l);
     }

@@ -10,9 +10,8 @@ search_key-requires-clause-key g c =
     let first = g.F.First.words in (
       w,
       begins first (length c.add_key.new.self.machine.cpus) p.machine w _ s c.in_ok-add_key.ensures.count
-          (sym (ap (λ m. length m.cpus) c.in_ok-add_key.ensures.machine))
-          (c.as_slice.ensures.value ∙ c.in_ok-add_key.ensures.key
-          ∙ ap (λ v. v ++ key_words first 0 p.machine.cpus p.machine.memory) c.new-start.ensures.items),
+          (rw (← c.in_ok-add_key.ensures.machine))
+          (rw (c.as_slice.ensures.value, c.in_ok-add_key.ensures.key, c.new-start.ensures.items)),
     )
 
 pub returns-clause-told : goal.returns-clause-told
@@ -26,5 +25,5 @@ returns-clause-told g c =
     if_one c.search_key.result _ _ c.search_key.ensures.told (λ r told w k.
     told_on first (length s.machine.cpus) (length there.machine.cpus) s.top there.top s.cpus.items there.cpus.items w
     c.args.most c.args.limit _ _ _ count c.in_ok-add_key.ensures.top
-    (ap (λ v. v.items) c.in_ok-add_key.ensures.cpus)
+    (rw c.in_ok-add_key.ensures.cpus)
     (told w (begins first (length there.machine.cpus) s.machine w _ k c.in_ok-add_key.ensures.count (sym count) start)))

@@ -1,7 +1,6 @@
-use Rattle.std.proofs.Common.{◌∙◌, ap, map, subst, sym}
-use Rattle.std.specs.List.{AllByRecursion}
+use Rattle.std.proofs.Common.{◌∙◌, subst, sym}
 use Rattle.pip_apart.specs.Found.{IsFoundAt}
-use Rattle.pip_apart.specs.Searches.{CanBeShown, IsGuestKey, alone_of}
+use Rattle.pip_apart.specs.Searches.{IsGuestKey}
 use Rattle.pip_apart.proofs.Telling.{one_found, one_shown, one_top}
 use Rattle.pip_apart.proofs.searching.search_tops.Goals as goal
 
@@ -12,13 +11,14 @@ loop-top-preserved g c =
     let first = g.F.First.words in
     record {
       count = c.search_top.ensures.count ∙ i.count;
-      tops = ap (map (λ s. s.top)) c.in_ok-push.ensures.items
-          ∙ one_top c.loop-top.found.items x c.args.tops.now c.loop-top.top-index c.top-item.result i.tops
-          c.in_ok-search_top.ensures.top c.top-item.is c.loop-top-test.true;
-      each = λ w k. subst (λ ys. AllByRecursion (IsFoundAt first w c.args.most c.args.limit) (map alone_of ys))
-          (sym c.in_ok-push.ensures.items)
-          (one_found (IsFoundAt first w c.args.most c.args.limit) c.loop-top.found.items x (i.each w k)
-          (c.in_ok-search_top.ensures.found w (subst (λ n. IsGuestKey first n c.args.start.now w) (sym i.count) k)));
-      shown = subst (AllByRecursion CanBeShown) (sym c.in_ok-push.ensures.items)
-          (one_shown c.loop-top.found.items x i.shown c.in_ok-search_top.ensures.shown);
+      tops = rw (
+        c.in_ok-push.ensures.items,
+        one_top c.loop-top.found.items x c.args.tops.now c.loop-top.top-index
+            c.top-item.result i.tops c.in_ok-search_top.ensures.top c.top-item.is c.loop-top-test.true,
+      );
+      each = λ w k. rw c.in_ok-push.ensures.items (one_found (IsFoundAt first w c.args.most c.args.limit)
+          c.loop-top.found.items x (i.each w k) (c.in_ok-search_top.ensures.found w
+          (subst (λ n. IsGuestKey first n c.args.start.now w) (sym i.count) k)));
+      shown = rw c.in_ok-push.ensures.items (one_shown c.loop-top.found.items x i.shown
+          c.in_ok-search_top.ensures.shown);
     }

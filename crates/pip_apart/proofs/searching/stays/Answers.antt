@@ -1,8 +1,5 @@
-use Rattle.std.proofs.Common.{◌∙◌, ap, not, subst, sym}
 use Rattle.pip_search.specs.Ways.{witnesses_of}
 use Rattle.pip_search.specs.declared.searching.Extent.TheVariants.{Closed}
-use Rattle.pip_apart.specs.Alone.{NoneLeaves}
-use Rattle.pip_apart.specs.Found.{stays}
 use Rattle.pip_apart.proofs.Telling.{labels_marked, none_marked, unmarked}
 use Rattle.pip_apart.proofs.searching.stays.Goals as goal
 
@@ -14,8 +11,7 @@ returns-in-Closed-clause-leaves c e =
       d,
       (
         c.in-Closed.is,
-        subst (λ v. NoneLeaves (witnesses_of v vs fs)) (sym c.in-Closed.is)
-            (none_marked (witnesses_of (Closed d) vs fs)
+        rw c.in-Closed.is (none_marked (witnesses_of (Closed d) vs fs)
             (unmarked d vs fs c.some_marked.result c.some_marked.ensures e)),
       ),
     )
@@ -25,5 +21,4 @@ returns-in-Closed-clause-is c =
     let d = c.in-Closed.depth in
     let vs = c.args.search.now.visits.items in
     let fs = c.args.search.now.found.items in
-    ap not (c.some_marked.ensures ∙ labels_marked d vs fs)
-    ∙ ap (λ v. stays v (witnesses_of v vs fs)) (sym c.in-Closed.is)
+    cc (c.some_marked.ensures, labels_marked d vs fs, c.in-Closed.is)

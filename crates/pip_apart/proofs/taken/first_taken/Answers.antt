@@ -1,5 +1,5 @@
-use Rattle.std.proofs.Common.{◌≡◌, ◌∙◌, ap, arith, sym}
-use Rattle.pip_apart.specs.Tops.{first_before, might_take}
+use Rattle.std.proofs.Common.{◌≡◌, arith}
+use Rattle.pip_apart.specs.Tops.{might_take}
 use Rattle.pip_apart.proofs.Entries.{first_here}
 use Rattle.pip_apart.proofs.taken.first_taken.Goals as goal
 
@@ -11,4 +11,4 @@ returns-then-might_take g c t x s lays is =
 pub returns : goal.returns
 returns g c t x s lays is =
     let end : c.loop-line.line ≡ 16 = omega arith in
-    sym (ap (first_before (might_take t)) (sym end) ∙ c.loop-line.invariant t x s lays is)
+    cc (c.loop-line.invariant t x s lays is)

@@ -1,5 +1,4 @@
-use Rattle.std.proofs.Common.{◌≡◌, Some, arith, subst, sym}
-use Rattle.pip_model.specs.Tree.{find_node}
+use Rattle.std.proofs.Common.{arith}
 use Rattle.pip_apart.proofs.Entries.{fault_tells, word_tells}
 use Rattle.pip_apart.proofs.taken.might_take.Goals as goal
 
@@ -7,12 +6,10 @@ pub returns-in-Ok : goal.returns-in-Ok
 returns-in-Ok g c t x s lays is =
     word_tells t s c.args.line _ (omega arith) c.is_lent.result c.if-is_lent.false
     (c.is_lent.ensures t x s lays is) c.new.result c.new.ensures c.load.result
-    (c.load.ensures.answer t x s lays (subst (λ n. find_node t n ≡ Some x)
-    (sym c.new.ensures) is)) c.in-Ok.word c.in-Ok.is
+    (c.load.ensures.answer t x s lays (cc)) c.in-Ok.word c.in-Ok.is
 
 pub returns-in-Err : goal.returns-in-Err
 returns-in-Err g c t x s lays is =
     fault_tells t s c.args.line _ (omega arith) c.is_lent.result c.if-is_lent.false
     (c.is_lent.ensures t x s lays is) c.new.result c.new.ensures c.load.result
-    (c.load.ensures.answer t x s lays (subst (λ n. find_node t n ≡ Some x)
-    (sym c.new.ensures) is)) c.in-Err.field-0 c.in-Err.is
+    (c.load.ensures.answer t x s lays (cc)) c.in-Err.field-0 c.in-Err.is

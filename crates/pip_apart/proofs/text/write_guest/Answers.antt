@@ -1,7 +1,6 @@
-use Rattle.std.proofs.Common.{rules, ◌≡◌, ◌++◌, arith, length, subst}
+use Rattle.std.proofs.Common.{rules, ◌≡◌, ◌++◌, arith, length}
 use Rattle.std.proofs.lemmas.Result.{MatchResult-from_err}
 use Rattle.std.specs.Prelude.{flat_map}
-use Rattle.pip_io.specs.Taken.{Appends, AppendsPart, Wrote}
 use Rattle.pip_io.proofs.Taken.{Appends-trans}
 use Rattle.pip_ways.specs.Texts.{verdict_line}
 use Rattle.pip_io.proofs.Piecewise.{part_after, part_longer, wrote_of}
@@ -13,16 +12,14 @@ pub returns : goal.returns
 returns g c = record {
   wrote =
       let s = c.args.guest.now in
-      let count : c.len.result ≡ length s.search.visits.items = omega (arith, c.len.ensures) in
+      let count : c.len.result ≡ length s.search.visits.items = omega arith in
       let head = guest_line s.top s.cpus.items in
       let lines = flat_map (turn_line s.cpus.items) (alone_of s).lines in
       wrote_of _ _ _ (head ++ lines) (verdict_line (length s.search.visits.items) s.end) c.write_verdict.result
       (Appends-trans _ _ _ head lines
-      (subst (λ cs. Appends (g.K.Sink.history c.args.sink.now).written (g.K.Sink.history c.write_head.new.sink).written
-      (guest_line s.top cs)) c.as_slice.ensures.value c.in_ok-write_head.ensures.wrote)
+      (rw (← c.as_slice.ensures.value) c.in_ok-write_head.ensures.wrote)
       c.in_ok-write_lines.ensures.wrote)
-      (subst (λ n. Wrote c.write_verdict.result (g.K.Sink.history c.write_lines.new.sink).written
-      (g.K.Sink.history c.write_verdict.new.sink).written (verdict_line n s.end)) count c.write_verdict.ensures.wrote);
+      (rw (← count) c.write_verdict.ensures.wrote);
   cause = search rules;
 }
 
@@ -34,9 +31,7 @@ returns-in_err-write_head g c = record {
       let lines = flat_map (turn_line s.cpus.items) (alone_of s).lines in
       part_longer _ _ (head ++ lines) (verdict_line (length s.search.visits.items) s.end)
       (part_longer _ _ head lines
-      (subst (λ cs. AppendsPart (g.K.Sink.history c.args.sink.now).written
-      (g.K.Sink.history c.write_head.new.sink).written
-      (guest_line s.top cs)) c.as_slice.ensures.value c.in_err-write_head.ensures.wrote)));
+      (rw (← c.as_slice.ensures.value) c.in_err-write_head.ensures.wrote)));
   cause = search rules;
 }
 
@@ -49,8 +44,7 @@ returns-in_err-write_lines g c = record {
       let lines = flat_map (turn_line s.cpus.items) (alone_of s).lines in
       part_longer _ _ (head ++ lines) (verdict_line (length s.search.visits.items) s.end)
       (part_after _ _ _ head lines
-      (subst (λ cs. Appends (g.K.Sink.history c.args.sink.now).written (g.K.Sink.history c.write_head.new.sink).written
-      (guest_line s.top cs)) c.as_slice.ensures.value c.in_ok-write_head.ensures.wrote)
+      (rw (← c.as_slice.ensures.value) c.in_ok-write_head.ensures.wrote)
       c.in_err-write_lines.ensures.wrote));
   cause = search rules;
 }

@@ -1,7 +1,6 @@
-use Rattle.std.proofs.Common.{rules, ◌++◌, map, subst}
+use Rattle.std.proofs.Common.{rules, ◌++◌, map}
 use Rattle.std.proofs.lemmas.Result.{MatchResult-from_err}
 use Rattle.std.specs.Prelude.{flat_map}
-use Rattle.pip_io.specs.Taken.{Appends, AppendsPart, Wrote}
 use Rattle.pip_io.proofs.Piecewise.{part_longer, wrote_of}
 use Rattle.pip_apart.specs.Found.{hold_apart}
 use Rattle.pip_apart.specs.Searches.{alone_of, known_of}
@@ -15,11 +14,9 @@ returns g c = record {
       let k = c.args.known.now in
       wrote_of _ _ _ (flat_map guest_text (map alone_of k.guests.items))
       (root_line k.root ++ taken_line k.line ++ apart_line (hold_apart (known_of k))) c.write_end.result
-      (subst (Appends (g.K.Sink.history c.args.sink.now).written (g.K.Sink.history c.write_guests.new.sink).written)
-      (guests_text k.guests.items c.as_slice.result.now c.as_slice.ensures.value) c.in_ok-write_guests.ensures.wrote)
-      (subst (λ b. Wrote c.write_end.result (g.K.Sink.history c.write_guests.new.sink).written
-      (g.K.Sink.history c.write_end.new.sink).written (root_line k.root ++ taken_line k.line ++ apart_line b))
-      c.hold_apart.ensures c.write_end.ensures.wrote);
+      (rw (guests_text k.guests.items c.as_slice.result.now c.as_slice.ensures.value) at
+      c.in_ok-write_guests.ensures.wrote)
+      (rw (← c.hold_apart.ensures) c.write_end.ensures.wrote);
   cause = search rules;
 }
 
@@ -29,7 +26,7 @@ returns-in_err-write_guests g c = record {
       let k = c.args.known.now in
       part_longer _ _ (flat_map guest_text (map alone_of k.guests.items))
       (root_line k.root ++ taken_line k.line ++ apart_line (hold_apart (known_of k)))
-      (subst (AppendsPart (g.K.Sink.history c.args.sink.now).written (g.K.Sink.history c.write_guests.new.sink).written)
-      (guests_text k.guests.items c.as_slice.result.now c.as_slice.ensures.value) c.in_err-write_guests.ensures.wrote));
+      (rw (← guests_text k.guests.items c.as_slice.result.now c.as_slice.ensures.value)
+      c.in_err-write_guests.ensures.wrote));
   cause = search rules;
 }

@@ -1,10 +1,8 @@
-use Rattle.std.proofs.Common.{rules, ◌<◌, ◌∙◌, ap, ap₂, length, sym, subst}
+use Rattle.std.proofs.Common.{rules, ◌∙◌, ap, ap₂, length, subst}
 use Rattle.std.proofs.lemmas.List.{length-map}
-use Rattle.std.specs.List.{All}
 use Rattle.pip_every.proofs.Keying.{if_ok}
 use Rattle.pip_model.specs.Images.{image_word}
-use Rattle.pip_command_contracts.specs.Planned.{lines_planned}
-use Rattle.pip_certificate_commands.specs.PartAbout.{about_numbers, part_sum, words_with}
+use Rattle.pip_certificate_commands.specs.PartAbout.{about_numbers, words_with}
 use Rattle.pip_certificate_commands.specs.PartShown.{IsNumbered}
 use Rattle.pip_command_contracts.proofs.LinesBelow.{lines_below}
 use Rattle.pip_certificate_commands.proofs.PartsChecked.{IsPartSaidBy, part_of, said_of}
@@ -12,14 +10,13 @@ use Rattle.pip_certificate_commands.proofs.checking.check.Goals as goal
 
 pub part-requires-clause-below : goal.part-requires-clause-below
 part-requires-clause-below g c =
-    subst (All (λ line. line < 16)) (sym (c.as_slice-4.ensures.value ∙ (c.planned_lines-lines.ensures
-    ∙ ap lines_planned c.as_slice.ensures.value))) (lines_below c.args.head.now.plans.items c.requires.limits.lines)
+    rw (c.as_slice-4.ensures.value, c.planned_lines-lines.ensures, c.as_slice.ensures.value)
+    (lines_below c.args.head.now.plans.items c.requires.limits.lines)
 
 -- all choices of the way can be made, so there is a part
 pub never-requires : goal.never-requires
 never-requires g c =
-    let lines = c.as_slice-4.ensures.value ∙ (c.planned_lines-lines.ensures
-    ∙ ap lines_planned c.as_slice.ensures.value) in
+    let lines = c.as_slice-4.ensures.value ∙ (rw (c.planned_lines-lines.ensures, c.as_slice.ensures.value)) in
     let count = ap length lines ∙ length-map c.args.head.now.plans.items (λ p. p.line) in
     search rules
 
@@ -30,8 +27,7 @@ returns-clause-found g c = if_ok c.counted.result _ _ (λ k is i b.
     let words = c.in_ok-later.later.block.frames in
     let base = c.args.read.now.base.items in
     let raised = c.as_slice-4.result.now in
-    let lines = c.as_slice-4.ensures.value ∙ (c.planned_lines-lines.ensures
-    ∙ ap lines_planned c.as_slice.ensures.value) in
+    let lines = c.as_slice-4.ensures.value ∙ (rw (c.planned_lines-lines.ensures, c.as_slice.ensures.value)) in
     let held = c.in_ok-later.ensures.words ∙ ap (words_with m) c.as_slice-2.ensures.value in
     let numbered = subst (λ n. IsNumbered c.in-Some.part c.about_text-about.result.bytes n k) (search rules) is in
     let said = c.in_ok-found.ensures.says c.in-Some.part i.frames (image_word i.frames i.pages) c.in-Some.is b.booted in
@@ -42,11 +38,9 @@ returns-clause-found g c = if_ok c.counted.result _ _ (λ k is i b.
           (c.in_ok-found.ensures.begins c.in-Some.part i.frames (image_word i.frames i.pages) c.in-Some.is b.booted)
           (c.about_text-about.ensures ∙ ap₂ (λ n s. about_numbers h.frames h.cpus n h.pages c.args.from s)
           c.len.ensures.value
-          (c.part_sum-sum.ensures ∙ ap (λ l. part_sum l m words)
-          (c.as_slice-3.ensures.value ∙ sym c.as_slice-4.ensures.value)));
-      said_is = subst (λ marks. IsPartSaidBy i c.args.from m base c.args.read.now.way.items marks k)
-          c.as_slice-6.ensures.value
-          (subst (λ way. IsPartSaidBy i c.args.from m base way c.as_slice-6.result.now k) c.as_slice-5.ensures.value
+          (rw (c.part_sum-sum.ensures, c.as_slice-3.ensures.value, ← c.as_slice-4.ensures.value)));
+      said_is = rw (← c.as_slice-6.ensures.value) (subst
+          (λ way. IsPartSaidBy i c.args.from m base way c.as_slice-6.result.now k) c.as_slice-5.ensures.value
           (said_of b c.args.from base words raised held lines c.in-Some.part c.about_text-about.result.bytes
           c.as_slice-5.result.now c.as_slice-6.result.now k numbered said));
     }) c.counted.ensures

@@ -1,11 +1,7 @@
-use Rattle.std.proofs.Common.{rules, arith, ◌≡◌, ◌<◌, ◌^◌, ◌∙◌, length, refl, sym, ap}
-use Rattle.std.specs.Prelude.{map}
+use Rattle.std.proofs.Common.{rules, arith, ◌≡◌, ◌<◌, ◌^◌, length, refl}
 use Rattle.std.proofs.lemmas.List.{length-map}
-use Rattle.pip_certificate_parts.specs.Sums.{labels_sum}
-use Rattle.pip_search.specs.Keys.{labels as label_list}
 use Rattle.pip_search.specs.Parts.{stop_of}
 use Rattle.pip_search.specs.declared.found.Found.{Found}
-use Rattle.pip_ways.specs.Texts.{inner}
 use Rattle.pip_certificate_commands.proofs.SmallStops.{same_numbers, small_stops}
 use Rattle.pip_certificate_commands.proofs.checking.counted.Goals as goal
 
@@ -26,14 +22,14 @@ returns c =
       about = refl;
       way = refl;
       counts = same_numbers c.args.way c.in_ok-keys.keys c.in_ok-asked.asked c.in_ok-labels.labels
-          c.found_sum-sum.result (keys ∙ sym one) (asked ∙ sym two) (labels ∙ sym three)
-          (c.found_sum-sum.ensures ∙ ap (λ fs. labels_sum (map inner (label_list fs))) c.as_slice.ensures.value);
+          c.found_sum-sum.result (cc) (cc) (cc)
+          (rw (c.found_sum-sum.ensures, c.as_slice.ensures.value));
       small = record {
         keys = small_stops p.keys.items;
         asked = small_stops p.asked.items;
         way = c.requires;
-        count = omega (arith, keys, few, one);
-        asks = omega (arith, asked, less, two);
-        labels = omega (arith, labels, low, three);
+        count = omega arith;
+        asks = omega arith;
+        labels = omega arith;
       };
     }

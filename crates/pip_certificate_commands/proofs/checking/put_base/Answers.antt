@@ -1,8 +1,6 @@
-use Rattle.std.proofs.Common.{◌∙◌, ◌<◌, ◌+◌, ap, sym, subst, drop, length}
-use Rattle.pip_base.specs.Memory.{IsMemory}
+use Rattle.std.proofs.Common.{◌∙◌, ◌<◌, ◌+◌, sym, subst, drop, length}
 use Rattle.pip_base.proofs.Memory.{IsMemory-put}
 use Rattle.pip_certificate_commands.specs.BaseWords.{AreBaseWords}
-use Rattle.pip_certificate_commands.specs.PartAbout.{words_with}
 use Rattle.pip_certificate_commands.proofs.BaseFrames.{base_next, put_next}
 use Rattle.pip_certificate_commands.proofs.checking.put_base.Goals as goal
 
@@ -12,14 +10,12 @@ loop-i-preserved c =
     let m = c.loop-i.mem.block.frames in
     let low : c.loop-i.i < length base = c.loop-i-test.true in
     record {
-      words = ap (λ x. words_with x (drop (c.loop-i.i + 1) base)) c.put_one.ensures.words
-          ∙ (sym (put_next base c.loop-i.i _ low m) ∙ c.loop-i.invariant.words);
+      words = rw (c.put_one.ensures.words, ← put_next base c.loop-i.i _ low m, c.loop-i.invariant.words);
       base = subst (λ k. AreBaseWords k (drop (c.loop-i.i + 1) base)) (sym c.put_one.ensures.count)
           (base_next base c.loop-i.i (record { frame = 0; index = 0; word = 0 }) low (length m)
           c.loop-i.invariant.base).1;
-      shape = subst IsMemory (sym c.put_one.ensures.words)
-          (IsMemory-put m _ _ _ c.loop-i.invariant.shape (base_next base c.loop-i.i _ low (length m)
-          c.loop-i.invariant.base).0.0);
+      shape = rw c.put_one.ensures.words (IsMemory-put m _ _ _ c.loop-i.invariant.shape
+          (base_next base c.loop-i.i _ low (length m) c.loop-i.invariant.base).0.0);
       count = c.put_one.ensures.count ∙ c.loop-i.invariant.count;
     }
 

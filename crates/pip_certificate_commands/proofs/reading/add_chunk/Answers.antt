@@ -1,4 +1,4 @@
-use Rattle.std.proofs.Common.{arith, ◌≡◌, ◌∙◌, ◌+◌, ◌-◌, ◌*◌, ◌++◌, [], ap, ap₂, length}
+use Rattle.std.proofs.Common.{arith, ◌≡◌, ◌+◌, ◌-◌, ◌*◌, ◌++◌, [], ap₂, length}
 use Rattle.pip_certificate_commands.specs.PartReading.{part_seen}
 use Rattle.pip_certificate_commands.specs.PartText.{marks_from}
 use Rattle.pip_certificate_commands.proofs.Bits.{none_of}
@@ -11,10 +11,11 @@ returns-clause-adds c = λ rest.
     let place = was.place in
     let bytes = c.loop-bytes.bytes.now in
     let none : bytes ≡ [] = none_of bytes c.in_default.len_below in
-    let zero_long : length bytes ≡ 0 = ap length none in
-    was.adds rest
-    ∙ ap₂ (λ n a. marks_from (part_seen c.loop-bytes.part) n a (bytes ++ rest))
-    (let e : c.loop-bytes.left ≡ c.args.left - 8 * length c.args.bytes.now = omega (arith, l, zero_long) in e)
-    (let e : c.loop-bytes.at ≡ c.args.at + length c.args.bytes.now = omega (arith, place, zero_long) in e)
-    ∙ ap (λ bs. marks_from (part_seen c.loop-bytes.part) (c.args.left - 8 * length c.args.bytes.now)
-    (c.args.at + length c.args.bytes.now) (bs ++ rest)) none
+    let zero_long : length bytes ≡ 0 = rw none in
+    rw (
+      was.adds rest,
+      ap₂ (λ n a. marks_from (part_seen c.loop-bytes.part) n a (bytes ++ rest))
+          (let e : c.loop-bytes.left ≡ c.args.left - 8 * length c.args.bytes.now = omega (arith, l, zero_long) in e)
+          (let e : c.loop-bytes.at ≡ c.args.at + length c.args.bytes.now = omega (arith, place, zero_long) in e),
+      none,
+    )

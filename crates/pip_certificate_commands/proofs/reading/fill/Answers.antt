@@ -1,11 +1,10 @@
 use Rattle.std.proofs.Common.{rules, arith, ◌<◌, length, take, subst, sym}
 use Rattle.std.proofs.lemmas.List.{length-take-le}
-use Rattle.std.specs.Io.KnownBytes.{Consumes}
 use Rattle.std.proofs.KnownBytes.{Consumes-trans}
 use Rattle.std.proofs.lemmas.Slice.{overwrites}
 use Rattle.pip_certificate_commands.proofs.Buffers.{take_filled}
 use Rattle.pip_certificate_commands.proofs.reading.fill.Goals as goal
-use Rattle.pip_io.specs.Moments.{beside, streams}
+use Rattle.pip_io.specs.Moments.{beside}
 
 pub loop-taken-preserved : goal.loop-taken-preserved
 loop-taken-preserved g c = record {
@@ -15,8 +14,8 @@ loop-taken-preserved g c = record {
   some = search (rules, overwrites);
   is_open = search rules;
   no_faults = search rules;
-  taken = subst (Consumes _ _) (sym (take_filled c.loop-taken.taken c.in-Ok.count _ c.loop-taken.buf c.read.new.buf
-      c.loop-taken.invariant.some c.in-Ok.ensures.bound.0))
+  taken = rw (take_filled c.loop-taken.taken c.in-Ok.count _ c.loop-taken.buf c.read.new.buf
+      c.loop-taken.invariant.some c.in-Ok.ensures.bound.0)
       (Consumes-trans _ _ _ _ _ c.loop-taken.invariant.taken c.in-Ok.ensures.bytes.0);
 }
 
@@ -27,8 +26,6 @@ read-requires-clause-allowed g c =
     let size = was.size in
     let front = length-take-le c.loop-taken.taken c.loop-taken.buf some in
     let few : length (take c.loop-taken.taken c.loop-taken.buf) < length c.args.buf.now = search (rules, arith) in
-    subst (λ s. g.S.Source.allows (streams g.S.Source.history g.K.Sink.history c.loop-taken.joint.source.now s.now))
-    (sym was.sink)
-    (subst (λ n. g.S.Source.allows (beside (g.S.Source.history c.loop-taken.joint.source.now).left n
+    rw was.sink (subst (λ n. g.S.Source.allows (beside (g.S.Source.history c.loop-taken.joint.source.now).left n
     (g.K.Sink.history c.args.joint.now.sink.now))) (sym was.no_faults)
     (c.requires.paced (take c.loop-taken.taken c.loop-taken.buf) _ was.taken few))

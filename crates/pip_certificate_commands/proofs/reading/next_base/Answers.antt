@@ -1,4 +1,4 @@
-use Rattle.std.proofs.Common.{rules, ◌≡◌, ◌+◌, ◌-◌, ◌∙◌, ap, sym, ◌++◌, ◌∷◌, [], ap₂}
+use Rattle.std.proofs.Common.{rules, ◌≡◌, ◌+◌, ◌-◌, ◌∙◌, sym, ◌++◌, ◌∷◌, [], ap₂}
 use Rattle.std.specs.Prelude.{true, false}
 use Rattle.pip_certificate_commands.specs.PartReading.{StopsText, part_seen}
 use Rattle.pip_certificate_commands.specs.PartText.{base_from, is_base, number_in, word_place, with_base}
@@ -54,15 +54,18 @@ returns-clause-reads g c =
     search rules in
     let whole : part_seen (record a.part.now { base = c.push.new.self })
     ≡ with_base p c.number-frame.result c.number-index.result c.number-word.result =
-    ap (λ b. record { base = b; way = a.part.now.way.items; marks = a.part.now.marks.items }) items in (
+    rw items in (
       of_taken (base_from a.limits p a.least a.left a.at) 12 a.at
           (base_next a.limits p a.least a.at (a.left - 1))
           (base_front a.limits p a.least a.at a.left c.requires.left) x _ _ _ c.in_ok-take_front.ensures.size
           c.in_ok-take_front.ensures.front.0
           (base_good a.limits p a.least a.at (a.left - 1) x good
           ∙ ap₂ (λ q n. base_from a.limits q n (a.left - 1) (a.at + 12))
-          (ap₂ (λ f i. with_base p f i (number_in x 2)) (sym c.number-frame.ensures) (sym c.number-index.ensures)
-          ∙ ap (λ w. with_base p c.number-frame.result c.number-index.result w) (sym c.number-word.ensures) ∙ sym whole)
+          (rw (
+            ap₂ (λ f i. with_base p f i (number_in x 2)) (sym c.number-frame.ensures) (sym c.number-index.ensures),
+            ← c.number-word.ensures,
+            ← whole,
+          ))
           (ap₂ (λ f i. word_place f i + 1) (sym c.number-frame.ensures) (sym c.number-index.ensures))),
       c.in_ok-take_front.ensures.front.1,
     )

@@ -1,4 +1,4 @@
-use Rattle.std.proofs.Common.{rules, ◌≡◌, ◌+◌, ◌-◌, ◌<◌, ◌∙◌, All, ap, sym, subst, length, ◌++◌, ap₂}
+use Rattle.std.proofs.Common.{rules, ◌≡◌, ◌+◌, ◌-◌, ◌<◌, ◌∙◌, sym, length, ◌++◌, ap₂}
 use Rattle.std.proofs.lemmas.List.Elements.{All-append, All-replicate}
 use Rattle.std.specs.Prelude.{true, false, replicate, Some}
 use Rattle.pip_certificate_commands.specs.PartReading.{StopsText, part_seen}
@@ -37,9 +37,12 @@ returns-then-not-is_run-clause-reads g c =
     let p = part_seen a.part.now in
     let long : c.len.result ≡ length p.way = search rules in
     let bad : fits_way a.limits (length p.way) a.last (number_in x 0) (number_in x 1) ≡ false =
-    ap₂ (λ f i. fits_way a.limits (length p.way) a.last f i) (sym c.number-choice.ensures) (sym c.number-count.ensures)
-    ∙ (ap (λ n. fits_way a.limits n a.last c.number-choice.result c.number-count.result) (sym long)
-    ∙ (sym c.is_run.ensures.fits ∙ search rules)) in
+    rw (
+      ap₂ (λ f i. fits_way a.limits (length p.way) a.last f i) (sym c.number-choice.ensures)
+          (sym c.number-count.ensures),
+      ← long,
+      ← c.is_run.ensures.fits,
+    ) (search rules) in
     of_fault (runs_from a.limits p a.last a.left a.at) 8 a.at
     (run_next a.limits p a.last a.at (a.left - 1))
     (run_front a.limits p a.last a.at a.left c.requires.left) x _ _ _ _ _ c.in_ok-take_front.ensures.size
@@ -64,23 +67,26 @@ returns-clause-reads g c =
     let p = part_seen a.part.now in
     let long : c.len.result ≡ length p.way = search rules in
     let good : fits_way a.limits (length p.way) a.last (number_in x 0) (number_in x 1) ≡ true =
-    ap₂ (λ f i. fits_way a.limits (length p.way) a.last f i) (sym c.number-choice.ensures) (sym c.number-count.ensures)
-    ∙ (ap (λ n. fits_way a.limits n a.last c.number-choice.result c.number-count.result) (sym long)
-    ∙ (sym c.is_run.ensures.fits ∙ search rules)) in
+    rw (
+      ap₂ (λ f i. fits_way a.limits (length p.way) a.last f i) (sym c.number-choice.ensures)
+          (sym c.number-count.ensures),
+      ← long,
+      ← c.is_run.ensures.fits,
+    ) (search rules) in
     let items : c.resize.new.self.items ≡ a.part.now.way.items
     ++ replicate c.number-count.result c.number-choice.result =
     run_more a.part.now.way.items c.resize.new.self.items c.len-2.result _ c.number-count.result
     c.number-choice.result (search rules) (search rules) c.in_ok-resize.ensures.items in
     let whole : part_seen (record a.part.now { way = c.resize.new.self })
     ≡ with_run p c.number-choice.result c.number-count.result =
-    ap (λ w. record { base = a.part.now.base.items; way = w; marks = a.part.now.marks.items }) items in (
+    rw items in (
       of_taken (runs_from a.limits p a.last a.left a.at) 8 a.at
           (run_next a.limits p a.last a.at (a.left - 1))
           (run_front a.limits p a.last a.at a.left c.requires.left) x _ _ _ c.in_ok-take_front.ensures.size
           c.in_ok-take_front.ensures.front.0
           (run_good a.limits p a.last a.at (a.left - 1) x good
           ∙ ap₂ (λ q n. runs_from a.limits q (Some n) (a.left - 1) (a.at + 8))
-          (ap₂ (λ f i. with_run p f i) (sym c.number-choice.ensures) (sym c.number-count.ensures) ∙ sym whole)
+          (cc (ap₂ (λ f i. with_run p f i) (sym c.number-choice.ensures) (sym c.number-count.ensures)))
           (sym c.number-choice.ensures)),
       c.in_ok-take_front.ensures.front.1,
     )
@@ -93,6 +99,5 @@ returns-clause-can g c =
     let items : c.resize.new.self.items ≡ a.part.now.way.items ++ replicate n choice =
     run_more a.part.now.way.items c.resize.new.self.items c.len-2.result _ n choice (search rules) (search rules)
     c.in_ok-resize.ensures.items in
-    subst (All (λ k. k < a.limits.choices)) (sym items)
-    (All-append (λ k. k < a.limits.choices) a.part.now.way.items (replicate n choice) c.requires.can
+    rw items (All-append (λ k. k < a.limits.choices) a.part.now.way.items (replicate n choice) c.requires.can
     (All-replicate (λ k. k < a.limits.choices) n choice (c.is_run.ensures.can (search rules))))

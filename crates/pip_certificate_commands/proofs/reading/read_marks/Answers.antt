@@ -1,6 +1,5 @@
 use Rattle.std.proofs.Common.{rules, arith, ◌+◌, ◌∙◌, sym, subst}
-use Rattle.pip_io.specs.Pacing.{MayRead}
-use Rattle.pip_io.specs.Moments.{beside, streams}
+use Rattle.pip_io.specs.Moments.{beside}
 use Rattle.pip_io.proofs.Pacing.{paced_after}
 use Rattle.pip_certificate_commands.specs.PartReading.{HasNoFault, StopsText, TakesText, part_seen}
 use Rattle.pip_certificate_commands.specs.PartText.{marks_from, marks_said}
@@ -22,9 +21,7 @@ read_bits-requires-clause-paced g c =
     let paced = paced_after g.S.Source.allows (HasNoFault t) (HasNoFault u) _ _ _ _
     (g.K.Sink.history a.joint.now.sink.now) taken.bytes
     c.in_ok-take_front.ensures.front.1 taken.taken (open_after t u _ _ taken) c.requires.paced in
-    subst (λ s. MayRead g.S.Source.allows (HasNoFault u) (streams g.S.Source.history g.K.Sink.history
-    c.take_front.new.joint.source.now s.now))
-    (sym c.in_ok-take_front.ensures.sink) paced
+    rw c.in_ok-take_front.ensures.sink paced
 
 pub returns-in_err-place-clause-reads : goal.returns-in_err-place-clause-reads
 returns-in_err-place-clause-reads g c =
@@ -59,9 +56,7 @@ end_text-requires-clause-allowed g c =
     let no_faults = c.in_ok-place.ensures.reads.1 ∙ c.in_ok-take_front.ensures.front.1 in
     let sink = c.in_ok-place.ensures.sink ∙ c.in_ok-take_front.ensures.sink in
     let allowed = c.requires.paced taken.bytes _ taken.taken (ends_stop t v _ _ taken tt) in
-    subst (λ s. g.S.Source.allows (streams g.S.Source.history g.K.Sink.history c.read_bits.new.joint.source.now s.now))
-    (sym sink)
-    (subst (λ n. g.S.Source.allows (beside (g.S.Source.history c.read_bits.new.joint.source.now).left n
+    rw sink (subst (λ n. g.S.Source.allows (beside (g.S.Source.history c.read_bits.new.joint.source.now).left n
     (g.K.Sink.history a.joint.now.sink.now))) (sym no_faults) allowed)
 
 pub returns-clause-reads : goal.returns-clause-reads

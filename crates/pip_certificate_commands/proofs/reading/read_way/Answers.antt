@@ -1,7 +1,5 @@
-use Rattle.std.proofs.Common.{rules, arith, ◌+◌, ◌-◌, ◌∙◌, sym, subst}
+use Rattle.std.proofs.Common.{rules, arith, ◌+◌, ◌-◌, ◌∙◌}
 use Rattle.std.specs.Prelude.{Some}
-use Rattle.pip_io.specs.Pacing.{MayRead}
-use Rattle.pip_io.specs.Moments.{streams}
 use Rattle.pip_io.proofs.Pacing.{paced_after}
 use Rattle.pip_certificate_commands.specs.PartReading.{HasNoFault, StopsText, part_seen}
 use Rattle.pip_certificate_commands.specs.PartText.{runs_from, runs_said}
@@ -17,9 +15,7 @@ next_run-requires-clause-paced g c =
     let paced = paced_after g.S.Source.allows (HasNoFault t) (HasNoFault u) _ _ _ _
     (g.K.Sink.history a.joint.now.sink.now) was.taken.bytes
     was.no_faults was.taken.taken (open_after t u _ _ was.taken) c.requires.paced in
-    subst (λ s. MayRead g.S.Source.allows (HasNoFault u) (streams g.S.Source.history g.K.Sink.history
-    c.loop-left.joint.source.now s.now)) (sym was.sink)
-    paced
+    rw was.sink paced
 
 pub returns-in_err-choice-clause-reads : goal.returns-in_err-choice-clause-reads
 returns-in_err-choice-clause-reads g c =

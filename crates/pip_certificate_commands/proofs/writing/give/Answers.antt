@@ -2,7 +2,6 @@ use Rattle.std.proofs.Common.{rules, ◌∙◌, subst}
 use Rattle.std.specs.Prelude.{codes, flat_map}
 use Rattle.std.proofs.lemmas.Result.{MatchResult-from_err}
 use Rattle.pip_io.specs.Taken.{Appends, AppendsPart, Wrote}
-use Rattle.pip_io.specs.Writes.{Writes}
 use Rattle.pip_model.specs.Text.{line_text}
 use Rattle.pip_certificate_parts.specs.Entries.{Tells, entry_line}
 use Rattle.pip_search.specs.Keys.{labels}
@@ -16,10 +15,10 @@ use Rattle.pip_certificate_commands.proofs.writing.give.Goals as goal
 pub returns-in_err-write_stops : goal.returns-in_err-write_stops
 returns-in_err-write_stops g c =
     let k = c.args.checked.now in
-    subst (Writes g.K.Sink.history c.args.sink.now c.write_stops.new.sink c.from_residual.result)
-    (four_pieces k c.requires) (record {
-      wrote = MatchResult-from_err c.from_residual.result _ _ c.from_residual.ensures.0 (λ _.
-          part_longer _ _ (own_lines k) _ (subst (λ v. AppendsPart (g.K.Sink.history c.args.sink.now).written
+    rw (← four_pieces k c.requires) (record {
+      wrote = MatchResult-from_err c.from_residual.result _ _
+          c.from_residual.ensures.0 (λ _. part_longer _ _ (own_lines k) _
+          (subst (λ v. AppendsPart (g.K.Sink.history c.args.sink.now).written
           (g.K.Sink.history c.write_stops.new.sink).written (flat_map (stop_line (codes " +")) (stops v)))
           c.as_slice.ensures.value c.in_err-write_stops.ensures.wrote));
       cause = search rules;
@@ -28,13 +27,12 @@ returns-in_err-write_stops g c =
 pub returns-in_err-write_stops-2 : goal.returns-in_err-write_stops-2
 returns-in_err-write_stops-2 g c =
     let k = c.args.checked.now in
-    subst (Writes g.K.Sink.history c.args.sink.now c.write_stops-2.new.sink
-    c.from_residual-in_err-write_stops-2.result) (four_pieces k c.requires) (record {
-      wrote = MatchResult-from_err c.from_residual-in_err-write_stops-2.result _ _
-          c.from_residual-in_err-write_stops-2.ensures.0 (λ _.
-          part_after _ _ _ (own_lines k) _ (subst (λ v. Appends (g.K.Sink.history c.args.sink.now).written
-          (g.K.Sink.history c.write_stops.new.sink).written (flat_map (stop_line (codes " +")) (stops v)))
-          c.as_slice.ensures.value c.in_ok-write_stops.ensures.wrote)
+    rw (← four_pieces k c.requires) (record {
+      wrote = MatchResult-from_err c.from_residual-in_err-write_stops-2.result
+          _ _ c.from_residual-in_err-write_stops-2.ensures.0
+          (λ _. part_after _ _ _ (own_lines k) _ (subst
+          (λ v. Appends (g.K.Sink.history c.args.sink.now).written (g.K.Sink.history c.write_stops.new.sink).written
+          (flat_map (stop_line (codes " +")) (stops v))) c.as_slice.ensures.value c.in_ok-write_stops.ensures.wrote)
           (part_longer _ _ (asked_lines k) _ (subst (λ v. AppendsPart (g.K.Sink.history c.write_stops.new.sink).written
           (g.K.Sink.history c.write_stops-2.new.sink).written (flat_map (stop_line (codes " ?")) (stops v)))
           c.as_slice-2.ensures.value c.in_err-write_stops-2.ensures.wrote)));
@@ -44,28 +42,25 @@ returns-in_err-write_stops-2 g c =
 pub returns-in_err-write_labels : goal.returns-in_err-write_labels
 returns-in_err-write_labels g c =
     let k = c.args.checked.now in
-    subst (Writes g.K.Sink.history c.args.sink.now c.write_labels.new.sink
-    c.from_residual-in_err-write_labels.result) (four_pieces k c.requires) (record {
-      wrote = MatchResult-from_err c.from_residual-in_err-write_labels.result _ _
-          c.from_residual-in_err-write_labels.ensures.0 (λ _.
-          part_after _ _ _ (own_lines k) _ (subst (λ v. Appends (g.K.Sink.history c.args.sink.now).written
-          (g.K.Sink.history c.write_stops.new.sink).written (flat_map (stop_line (codes " +")) (stops v)))
-          c.as_slice.ensures.value c.in_ok-write_stops.ensures.wrote)
+    rw (← four_pieces k c.requires) (record {
+      wrote = MatchResult-from_err c.from_residual-in_err-write_labels.result _
+          _ c.from_residual-in_err-write_labels.ensures.0
+          (λ _. part_after _ _ _ (own_lines k) _ (subst
+          (λ v. Appends (g.K.Sink.history c.args.sink.now).written (g.K.Sink.history c.write_stops.new.sink).written
+          (flat_map (stop_line (codes " +")) (stops v))) c.as_slice.ensures.value c.in_ok-write_stops.ensures.wrote)
           (part_after _ _ _ (asked_lines k) _ (subst (λ v. Appends (g.K.Sink.history c.write_stops.new.sink).written
           (g.K.Sink.history c.write_stops-2.new.sink).written (flat_map (stop_line (codes " ?")) (stops v)))
           c.as_slice-2.ensures.value c.in_ok-write_stops-2.ensures.wrote)
-          (part_longer _ _ (label_lines k) _ (subst
-          (λ v. AppendsPart (g.K.Sink.history c.write_stops-2.new.sink).written
-          (g.K.Sink.history c.write_labels.new.sink).written (flat_map label_line (labels v)))
-          c.as_slice-3.ensures.value c.in_err-write_labels.ensures.wrote))));
+          (part_longer _ _ (label_lines k) _ (subst (λ v. AppendsPart (g.K.Sink.history c.write_stops-2.new.sink).written
+          (g.K.Sink.history c.write_labels.new.sink).written (flat_map label_line (labels v))) c.as_slice-3.ensures.value
+          c.in_err-write_labels.ensures.wrote))));
       cause = search rules;
     })
 
 pub returns : goal.returns
 returns g c =
     let k = c.args.checked.now in
-    subst (Writes g.K.Sink.history c.args.sink.now c.write_last.new.sink c.write_last.result)
-    (four_pieces k c.requires) (record {
+    rw (← four_pieces k c.requires) (record {
       wrote = wrote_of _ _ _ (own_lines k) _ c.write_last.result
           (subst (λ v. Appends (g.K.Sink.history c.args.sink.now).written
           (g.K.Sink.history c.write_stops.new.sink).written (flat_map (stop_line (codes " +")) (stops v)))
@@ -76,10 +71,10 @@ returns g c =
           c.as_slice-2.ensures.value c.in_ok-write_stops-2.ensures.wrote)
           (wrote_of _ _ _ (label_lines k) (last_line k) c.write_last.result
           (subst (λ v. Appends (g.K.Sink.history c.write_stops-2.new.sink).written
-          (g.K.Sink.history c.write_labels.new.sink).written (flat_map label_line (labels v)))
-          c.as_slice-3.ensures.value c.in_ok-write_labels.ensures.wrote)
-          (subst (λ t. Wrote c.write_last.result (g.K.Sink.history c.write_labels.new.sink).written
-          (g.K.Sink.history c.write_last.new.sink).written (line_text (entry_line (Tells t k.numbers))))
-          (c.as_bytes.ensures.value ∙ c.as_str.ensures.value) c.write_last.ensures.wrote)));
+          (g.K.Sink.history c.write_labels.new.sink).written (flat_map label_line (labels v))) c.as_slice-3.ensures.value
+          c.in_ok-write_labels.ensures.wrote) (subst (λ t. Wrote c.write_last.result
+          (g.K.Sink.history c.write_labels.new.sink).written (g.K.Sink.history c.write_last.new.sink).written
+          (line_text (entry_line (Tells t k.numbers)))) (c.as_bytes.ensures.value ∙ c.as_str.ensures.value)
+          c.write_last.ensures.wrote)));
       cause = search rules;
     })

@@ -1,7 +1,6 @@
-use Rattle.std.proofs.Common.{rules, subst}
+use Rattle.std.proofs.Common.{rules}
 use Rattle.std.specs.Prelude.{codes}
 use Rattle.std.proofs.lemmas.Result.{MatchResult-from_err}
-use Rattle.pip_io.specs.Taken.{Appends, AppendsPart}
 use Rattle.pip_io.proofs.Taken.{Appends-trans}
 use Rattle.pip_io.proofs.Piecewise.{part_after, part_longer, wrote_after}
 use Rattle.pip_certificate_commands.proofs.writing.write_label.Goals as goal
@@ -18,8 +17,7 @@ returns-in_err-write_all-2 g c = record {
   wrote = MatchResult-from_err c.from_residual-in_err-write_all-2.result _ _
       c.from_residual-in_err-write_all-2.ensures.0 (λ _.
       part_after _ _ _ (codes "line") _ c.in_ok-write_all.ensures.whole
-      (part_longer _ _ _ _ (subst (AppendsPart (g.K.Sink.history c.write_all.new.sink).written
-      (g.K.Sink.history c.write_all-2.new.sink).written) c.inner.ensures c.in_err-write_all-2.ensures.prefix)));
+      (part_longer _ _ _ _ (rw c.inner.ensures at c.in_err-write_all-2.ensures.prefix)));
   cause = search rules;
 }
 
@@ -27,8 +25,7 @@ pub returns : goal.returns
 returns g c = record {
   wrote = wrote_after _ _ _ _ _ c.write_all-3.result
       (Appends-trans _ _ _ (codes "line") _ c.in_ok-write_all.ensures.whole
-      (subst (Appends (g.K.Sink.history c.write_all.new.sink).written (g.K.Sink.history c.write_all-2.new.sink).written)
-      c.inner.ensures c.in_ok-write_all-2.ensures.whole))
+      (rw (← c.inner.ensures) c.in_ok-write_all-2.ensures.whole))
       c.write_all-3.ensures.whole c.write_all-3.ensures.prefix;
   cause = search rules;
 }

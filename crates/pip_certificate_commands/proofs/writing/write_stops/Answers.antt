@@ -1,8 +1,6 @@
-use Rattle.std.proofs.Common.{rules, arith, ◌<◌, ◌≡◌, ◌∙◌, ap, refl, subst, length, Some, slice_get}
-use Rattle.std.specs.Prelude.{flat_map, option_map}
+use Rattle.std.proofs.Common.{rules, arith, ◌<◌, ◌≡◌, ◌∙◌, refl, length, Some, slice_get}
 use Rattle.std.proofs.lemmas.Option.{slice_get-map, slice_get_read}
 use Rattle.std.proofs.lemmas.Result.{MatchResult-from_err}
-use Rattle.pip_io.specs.Taken.{Appends}
 use Rattle.pip_search.specs.Parts.{stop_of, stops}
 use Rattle.pip_io.proofs.Piecewise.{cut_here, one_more}
 use Rattle.pip_certificate_commands.specs.PartShown.{stop_line}
@@ -15,8 +13,8 @@ returns-in_err-write_stop g c =
     let k = c.loop-k.k in
     let x = c.index-keys-k.result in
     let here : k < length keys = c.loop-k-test.true in
-    let at : slice_get (stops keys) k ≡ Some (stop_of x) = slice_get-map stop_of keys k
-    ∙ ap (option_map stop_of) (slice_get_read keys (length keys) k x refl here c.index-keys-k.is) in
+    let at : slice_get (stops keys) k ≡ Some (stop_of x) = rw
+    (slice_get-map stop_of keys k, slice_get_read keys (length keys) k x refl here c.index-keys-k.is) in
     record {
       wrote = MatchResult-from_err c.from_residual.result _ _ c.from_residual.ensures.0 (λ _.
           cut_here (stop_line c.args.kind.now) _ _ _ (stops keys) k (stop_of x) at c.loop-k.invariant.wrote
@@ -30,8 +28,8 @@ loop-k-preserved g c =
     let k = c.loop-k.k in
     let x = c.index-keys-k.result in
     let here : k < length keys = c.loop-k-test.true in
-    let at : slice_get (stops keys) k ≡ Some (stop_of x) = slice_get-map stop_of keys k
-    ∙ ap (option_map stop_of) (slice_get_read keys (length keys) k x refl here c.index-keys-k.is) in
+    let at : slice_get (stops keys) k ≡ Some (stop_of x) = rw
+    (slice_get-map stop_of keys k, slice_get_read keys (length keys) k x refl here c.index-keys-k.is) in
     record {
       wrote = one_more (stop_line c.args.kind.now) _ _ _ (stops keys) k (stop_of x) at c.loop-k.invariant.wrote
           c.in_ok-write_stop.ensures.wrote;
@@ -40,8 +38,6 @@ loop-k-preserved g c =
 
 pub returns : goal.returns
 returns g c = record {
-  wrote = subst (Appends (g.K.Sink.history c.args.sink.now).written (g.K.Sink.history c.loop-k.sink).written)
-      (ap (flat_map (stop_line c.args.kind.now)) (all_taken stop_of c.args.keys.now c.loop-k.k
-      (search (rules, arith)))) c.loop-k.invariant.wrote;
+  wrote = rw (← all_taken stop_of c.args.keys.now c.loop-k.k (search (rules, arith))) c.loop-k.invariant.wrote;
   cause = search rules;
 }

@@ -1,4 +1,4 @@
-use Rattle.std.proofs.Common.{◌≡◌, ◌∙◌, true, sym, subst}
+use Rattle.std.proofs.Common.{◌≡◌, ◌∙◌, true, subst}
 use Rattle.pip_away.specs.Blind.{is_left_out, left_out}
 use Rattle.pip_every.specs.Away.{looks_away}
 use Rattle.pip_every.specs.Explored.{explored}
@@ -16,5 +16,5 @@ loop-cpu-preserved g c =
       passes = λ m k. passes_more o (explored c.args.explorer.now) m.world cpu (was.passes m k)
           (subst (λ e. IsKeyOf g.F.First.words e.scope c.args.key.now m
           → looks_away o.own (is_left_out o) e m.world cpu ≡ true) was.base
-          (λ own. sym (c.passes.ensures.passes m own) ∙ c.if-not-passes.false) k);
+          (λ own. rw (← c.passes.ensures.passes m own) c.if-not-passes.false) k);
     }

@@ -25,8 +25,7 @@ first_cpu-requires g c =
       c.len-place-end.ensures,
     )) in
     subst (λ b. IsKey (menu_model first b) c.deref.result.now) (sym c.loop-place.invariant.base)
-    (subst (IsKey (menu_model first (explored c.args.explorer.now)))
-    (sym (c.deref.ensures.value ∙ c.in_ok-read_key.ensures u at))
+    (rw (c.deref.ensures.value, c.in_ok-read_key.ensures u at)
     (key_at (menu_model first (explored c.args.explorer.now)) c.args.start.now z c.requires.closed c.requires.key
     c.loop-place.place u at))
 
@@ -44,12 +43,9 @@ returns-in-Some-clause-looks g c =
     record {
       visit = u;
       at = at;
-      fails = subst (λ k. (m : Moment) → IsKeyOf first (explored c.args.explorer.now).scope k m
-          → FailsFirst (left_out c.args.blind.now) (explored c.args.explorer.now) m.world c.in-Some.cpu)
-          (c.deref.ensures.value ∙ c.in_ok-read_key.ensures u at)
-          (subst (λ b. (m : Moment) → IsKeyOf first b.scope c.deref.result.now m
-          → FailsFirst (left_out c.args.blind.now) b m.world c.in-Some.cpu) c.loop-place.invariant.base
-          c.in-Some.ensures.looks);
+      fails = rw (← c.in_ok-read_key.ensures u at, ← c.deref.ensures.value)
+          (subst (λ b. (m : Moment) → IsKeyOf first b.scope c.deref.result.now m → FailsFirst
+          (left_out c.args.blind.now) b m.world c.in-Some.cpu) c.loop-place.invariant.base c.in-Some.ensures.looks);
       before = c.loop-place.invariant.passes;
     }
 
@@ -63,12 +59,11 @@ loop-place-preserved g c =
           (visits_of c.args.search.now) c.loop-place.place was.passes (λ u m at own. rw (c.in_default.is)
           at (subst (λ b. IsKeyOf first b.scope c.deref.result.now m → FirstLooks (left_out c.args.blind.now) b m.world
           c.first_cpu.result) was.base (c.first_cpu.ensures.looks m)
-          (subst (λ k. IsKeyOf first (explored c.args.explorer.now).scope k m)
-          (sym (c.deref.ensures.value ∙ c.in_ok-read_key.ensures u at)) own)));
+          (rw (c.deref.ensures.value, c.in_ok-read_key.ensures u at) own)));
     }
 
 pub returns-clause-looks : goal.returns-clause-looks
 returns-clause-looks g c j u m low at own =
     let count = visit_count c.args.search.now c.requires.closed.searching.keyed in
-    c.loop-place.invariant.passes j u m (omega (arith, low, count, c.loop-place-test.false, c.len-place-end.ensures))
+    c.loop-place.invariant.passes j u m (omega arith)
     at own

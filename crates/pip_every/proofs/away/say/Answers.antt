@@ -1,12 +1,10 @@
-use Rattle.std.proofs.Common.{sym, subst, arith}
+use Rattle.std.proofs.Common.{subst, arith}
 use Rattle.pip_away.specs.Blind.{left_out}
 use Rattle.pip_search.specs.Keys.{visits_of}
 use Rattle.pip_search.specs.Ways.{way_to}
 use Rattle.pip_search.proofs.Places.{get-below}
 use Rattle.pip_search.proofs.Steps.{visit_count}
-use Rattle.pip_every.specs.Away.{IsAwaySaid}
 use Rattle.pip_every.specs.Explored.{explored}
-use Rattle.pip_every.specs.declared.away.Away.TheVariants.{No, Yes}
 use Rattle.pip_every.specs.Passing.{IsFirstToFail, LooksFirst}
 use Rattle.pip_every.proofs.Passing.{all_pass, one_fails}
 use Rattle.pip_every.proofs.away.say.Goals as goal
@@ -18,9 +16,7 @@ runs_to-requires-clause-place g c =
     let f : IsFirstToFail g.F.First.words (left_out c.args.blind.now) (explored c.args.explorer.now) (visits_of z)
     c.in-Some.place c.in-Some.cpu = subst (LooksFirst g.F.First.words (left_out c.args.blind.now)
     (explored c.args.explorer.now) (visits_of z)) c.in-Some.is c.in_ok-place.ensures.looks in
-    let count = visit_count z h.searching.keyed in
-    let inside = get-below (visits_of z) c.in-Some.place f.visit f.at in
-    omega (arith, count, inside)
+    omega (arith, visit_count z h.searching.keyed, get-below (visits_of z) c.in-Some.place f.visit f.at)
 
 pub returns-in_ok-way-in-Some-clause-said : goal.returns-in_ok-way-in-Some-clause-said
 returns-in_ok-way-in-Some-clause-said g c m k =
@@ -29,13 +25,13 @@ returns-in_ok-way-in-Some-clause-said g c m k =
     let o = left_out c.args.blind.now in
     let menu = explored c.args.explorer.now in
     let f : IsFirstToFail first o menu (visits_of z) c.in-Some.place c.in-Some.cpu =
-    subst (LooksFirst first o menu (visits_of z)) c.in-Some.is c.in_ok-place.ensures.looks in
-    subst (λ e. IsAwaySaid first o menu m e (No c.in_ok-way-in-Some.way c.in-Some.cpu)) (sym c.in-Closed.is) (
+    rw c.in-Some.is at c.in_ok-place.ensures.looks in
+    rw c.in-Closed.is (
       way_to z.visits.items c.in-Some.place,
       (
         c.in_ok-way-in-Some.ensures,
-        one_fails first o menu c.args.start.now z (c.requires.closed c.in-Closed.depth c.in-Closed.is) m k
-            c.in-Some.place c.in-Some.cpu f,
+        one_fails first o menu c.args.start.now z
+            (c.requires.closed c.in-Closed.depth c.in-Closed.is) m k c.in-Some.place c.in-Some.cpu f,
       ),
     )
 
@@ -45,6 +41,5 @@ returns-in-None-clause-said g c m k =
     let first = g.F.First.words in
     let o = left_out c.args.blind.now in
     let menu = explored c.args.explorer.now in
-    subst (λ e. IsAwaySaid first o menu m e Yes) (sym c.in-Closed.is)
-    (all_pass first o menu c.args.start.now z (c.requires.closed c.in-Closed.depth c.in-Closed.is) m k
-    (subst (LooksFirst first o menu (visits_of z)) c.in-None.is c.in_ok-place.ensures.looks))
+    rw c.in-Closed.is (all_pass first o menu c.args.start.now z (c.requires.closed c.in-Closed.depth c.in-Closed.is) m
+    k (subst (LooksFirst first o menu (visits_of z)) c.in-None.is c.in_ok-place.ensures.looks))

@@ -1,22 +1,19 @@
-use Rattle.std.proofs.Common.{rules, arith, ◌≡◌, ℕ, ◌+◌, List, ◌∷◌, [], map, length, length-append, Some, slice_get}
-use Rattle.std.proofs.Common.{ap, refl, sym, subst, ◌∙◌}
-use Rattle.std.specs.Prelude.{option_map}
+use Rattle.std.proofs.Common.{rules, arith, ◌≡◌, ℕ, List, ◌∷◌, [], map, length, length-append, Some, slice_get}
+use Rattle.std.proofs.Common.{refl, subst, ◌∙◌}
 use Rattle.std.proofs.lemmas.Option.{slice_get-map, slice_get_read}
-use Rattle.pip_search.specs.Summary.{HasOneKey}
-use Rattle.pip_search.specs.Systems.{IsKey}
 use Rattle.pip_every.specs.Again.{shown_line}
 use Rattle.pip_every.specs.Comes.{IsComing, own_classes}
 use Rattle.pip_every.specs.declared.comes.Comes.{Comes}
-use Rattle.pip_every.proofs.Saying.{AreYet, one_more_said}
+use Rattle.pip_every.proofs.Saying.{one_more_said}
 use Rattle.pip_every.proofs.comes.say_coming.Goals as goal
 
 pub say-requires-clause-key : goal.say-requires-clause-key
 say-requires-clause-key g c =
-    subst (λ b. IsKey (g.S.System.model b) c.args.start.now) (sym c.loop-line.invariant.base) c.requires.key
+    rw c.loop-line.invariant.base c.requires.key
 
 pub say-requires-clause-one : goal.say-requires-clause-one
 say-requires-clause-one g c =
-    subst (λ b. HasOneKey (g.S.System.model b)) (sym c.loop-line.invariant.base) c.requires.one
+    rw c.loop-line.invariant.base c.requires.one
 
 pub loop-line-preserved : goal.loop-line-preserved
 loop-line-preserved g c =
@@ -32,17 +29,15 @@ loop-line-preserved g c =
     let item = slice_get_read c.args.lines.now (length c.args.lines.now) c.loop-line.line-index c.line-item.result refl
     (search (rules, arith)) c.line-item.is in
     let there : Some c.line-item.result.items ≡ Some line =
-    sym (slice_get-map (λ v. v.items) c.args.lines.now c.loop-line.line-index ∙ ap (option_map (λ v. v.items)) item)
-    ∙ at in
+    cc (slice_get-map (λ v. v.items) c.args.lines.now c.loop-line.line-index) in
     c.as_slice.ensures.value ∙ cc in
     record {
       base = c.in_ok-said.ensures.base ∙ was.base;
-      count = ap length c.in_ok-push.ensures.items ∙ length-append said (r ∷ []) ∙ ap (λ n. n + 1) was.count;
+      count = rw (c.in_ok-push.ensures.items, length-append said (r ∷ []), was.count);
       said = λ x stands.
           let IsOwn : List ℕ → Comes → Type 0 = λ line v.
           IsComing (g.S.System.model (g.S.System.base c.args.system.now)) (own_classes c.args.width) x
           (shown_line line) c.args.extent v in
-          subst (AreYet IsOwn lines) (sym c.in_ok-push.ensures.items)
-          (one_more_said IsOwn lines said c.loop-line.line-index r (was.said x stands) was.count (λ line at.
-          subst (λ l. IsOwn l r) (same line at) (own x stands)));
+          rw c.in_ok-push.ensures.items (one_more_said IsOwn lines said c.loop-line.line-index r (was.said x stands)
+          was.count (λ line at. subst (λ l. IsOwn l r) (same line at) (own x stands)));
     }

@@ -1,6 +1,4 @@
-use Rattle.std.proofs.Common.{rules, subst, sym}
-use Rattle.pip_cpu.specs.Made.{MadeOrCut}
-use Rattle.pip_every.specs.Menus.{hostile_acts}
+use Rattle.std.proofs.Common.{rules}
 use Rattle.pip_every.proofs.Doing.{did, line_came}
 use Rattle.pip_every.proofs.deeds.act_from_menu.Goals as goal
 
@@ -11,9 +9,6 @@ returns-in-Switched-clause-acts g c = λ w h.
 pub returns-in-Some : goal.returns-in-Some
 returns-in-Some g c = record {
   acts = λ w h. let f = c.poll-outcome.ensures.event w h in
-      subst (λ d. MadeOrCut c.do_deed.result (g.P.Port.stands c.do_deed.new.port)
-      (g.K.Sink.history c.args.sink.now).written
-      (g.K.Sink.history c.do_deed.new.sink).written w (hostile_acts w c.args.cpu d)) (sym c.in-Some.is)
-      (did _ _ _ _ w _ _ _ c.in_default.not-Switched f.0 (c.do_deed.ensures.acts _ f.1));
+      rw c.in-Some.is (did _ _ _ _ w _ _ _ c.in_default.not-Switched f.0 (c.do_deed.ensures.acts _ f.1));
   count = search rules;
 }

@@ -1,7 +1,5 @@
-use Rattle.std.proofs.Common.{sym, subst}
-use Rattle.pip_base.specs.Memory.{IsMemory}
 use Rattle.pip_base.proofs.Memory.{IsMemory-replicate_zeros}
 use Rattle.pip_every.proofs.later.words_later.Goals as goal
 
 pub note_words-requires : goal.note_words-requires
-note_words-requires g c = record { shape = subst IsMemory (sym c.in_ok-later.ensures) (IsMemory-replicate_zeros _) }
+note_words-requires g c = record { shape = rw c.in_ok-later.ensures (IsMemory-replicate_zeros _) }

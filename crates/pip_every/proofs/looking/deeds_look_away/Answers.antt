@@ -1,7 +1,6 @@
-use Rattle.std.proofs.Common.{◌∙◌, ap, arith, sym}
+use Rattle.std.proofs.Common.{arith, sym}
 use Rattle.std.proofs.lemmas.Option.{slice_get-get_or}
 use Rattle.pip_away.specs.Blind.{blind_of}
-use Rattle.pip_every.specs.Away.{deeds_read_outside}
 use Rattle.pip_every.proofs.OnStates.{deed_passes, deed_reads, drop_all}
 use Rattle.pip_every.proofs.looking.deeds_look_away.Goals as goal
 
@@ -18,6 +17,4 @@ loop-k-preserved g c w s =
     c.may_looks_away.result (c.may_looks_away.ensures w s) (c.loop-k.invariant w s) c.if-not-may_looks_away.false
 
 pub returns : goal.returns
-returns g c w s = sym (c.loop-k.invariant w s
-    ∙ ap (deeds_read_outside c.args.blind.now.own.items (blind_of c.args.blind.now) w c.args.cpu)
-    (drop_all c.args.menu.now c.loop-k.k (omega arith)))
+returns g c w s = sym (rw (c.loop-k.invariant w s, drop_all c.args.menu.now c.loop-k.k (omega arith)))

@@ -1,9 +1,4 @@
-use Rattle.std.proofs.Common.{◌∙◌, ap, cond, sym}
-use Rattle.pip_every.specs.Menus as menus
-use Rattle.pip_every.specs.Menus.{name_on}
-use Rattle.pip_model.specs.Acts.{events_made}
-use Rattle.pip_model.specs.Turn.{turn}
-use Rattle.pip_outside.specs.Tests.{all_read_outside}
+use Rattle.std.proofs.Common.{◌∙◌, ap, sym}
 use Rattle.pip_away.specs.Blind.{blind_of}
 use Rattle.pip_every.specs.Away as tests
 use Rattle.pip_every.proofs.OnStates.{hostile_here}
@@ -13,16 +8,18 @@ pub returns-then-is_hostile-clause-away : goal.returns-then-is_hostile-clause-aw
 returns-then-is_hostile-clause-away g c w m s same = c.hostile_looks_away.ensures.away w s
     ∙ ap (λ ds. tests.hostile_looks_away c.args.blind.now.own.items (blind_of c.args.blind.now) ds w c.args.cpu)
     (sym same)
-    ∙ sym (ap (λ b. cond b (tests.hostile_looks_away c.args.blind.now.own.items (blind_of c.args.blind.now) m.may w
-    c.args.cpu) (all_read_outside c.args.blind.now.own.items (blind_of c.args.blind.now) w (events_made
-    (turn w c.args.cpu 0)))) (ap (menus.is_hostile w.tree.root.name (name_on w c.args.cpu)) same
-    ∙ sym (hostile_here c.args.machine.now w s c.args.cpu c.args.menu.now c.runs.result (c.runs.ensures w s)
-    c.is_hostile.result c.is_hostile.ensures) ∙ c.if-is_hostile.true))
+    ∙ sym (rw (
+      same,
+      ← hostile_here c.args.machine.now w s c.args.cpu c.args.menu.now c.runs.result
+          (c.runs.ensures w s) c.is_hostile.result c.is_hostile.ensures,
+      c.if-is_hostile.true,
+    ))
 
 pub returns-clause-away : goal.returns-clause-away
 returns-clause-away g c w m s same = c.turn_looks_away.ensures.away w s
-    ∙ sym (ap (λ b. cond b (tests.hostile_looks_away c.args.blind.now.own.items (blind_of c.args.blind.now) m.may w
-    c.args.cpu) (all_read_outside c.args.blind.now.own.items (blind_of c.args.blind.now) w (events_made
-    (turn w c.args.cpu 0)))) (ap (menus.is_hostile w.tree.root.name (name_on w c.args.cpu)) same
-    ∙ sym (hostile_here c.args.machine.now w s c.args.cpu c.args.menu.now c.runs.result (c.runs.ensures w s)
-    c.is_hostile.result c.is_hostile.ensures) ∙ c.if-is_hostile.false))
+    ∙ sym (rw (
+      same,
+      ← hostile_here c.args.machine.now w s c.args.cpu c.args.menu.now c.runs.result
+          (c.runs.ensures w s) c.is_hostile.result c.is_hostile.ensures,
+      c.if-is_hostile.false,
+    ))

@@ -1,6 +1,5 @@
 -- The part begins at the first moment, or where a way leads from there.
-use Rattle.std.proofs.Common.{All, arith, ◌≡◌, ◌∙◌, ◌+◌, ◌*◌, ◌<◌, ◌++◌, [], ap, length, subst, sym}
-use Rattle.pip_model.specs.Booted.{IsBooted}
+use Rattle.std.proofs.Common.{All, arith, ◌≡◌, ◌∙◌, ◌+◌, ◌*◌, ◌<◌, [], ap, length, subst, sym}
 use Rattle.pip_model.specs.Worlds.{boot_world_with}
 use Rattle.pip_search.specs.Certificates.{IsClosedPart, IsReachedPart}
 use Rattle.pip_search.specs.Parts.{portion_of}
@@ -17,10 +16,9 @@ pub check_part-requires-clause-key : goal.check_part-requires-clause-key
 check_part-requires-clause-key g c =
     let n = c.requires.booted.frames in
     let words = c.requires.booted.words in
-    let stands = c.new-machine.ensures.stands n words (subst (λ v. IsBooted n words v)
-    (sym c.in_ok-journal.ensures) c.requires.booted.booted) in
+    let stands = c.new-machine.ensures.stands n words (rw c.in_ok-journal.ensures c.requires.booted.booted) in
     let count : length c.new-explorer.result.machine.cpus ≡ length c.add_key.new.self.machine.cpus =
-    ap (λ p. length p.cpus) (sym c.in_ok-add_key.ensures.machine) in (
+    rw (← c.in_ok-add_key.ensures.machine) in (
       first_moment words n c.args.cpus,
       begun (boot_world_with words n c.args.cpus) stands c.new-explorer.ensures.machine c.in_ok-add_key.ensures.count
           count c.new-start.ensures.items (c.as_slice.ensures.value ∙ c.in_ok-add_key.ensures.key),
@@ -35,15 +33,15 @@ returns-clause-can g c = if_ok c.check_part.result _ _ (λ r e all.
     let machine : q.machine ≡ c.new-machine.result = c.in_ok-add_key.ensures.machine ∙ c.new-explorer.ensures.machine in
     let scope : t.scope ≡ s = scope_is
     (length q.machine.cpus) c.args.cpus q.lines.items c.args.lines.now q.from c.args.from
-    (ap (λ y. length y.cpus) machine ∙ c.new-machine.ensures.count)
+    (cc (c.new-machine.ensures.count))
     (ap (λ v. v.items) (c.in_ok-add_key.ensures.lines ∙ c.new-explorer.ensures.lines) ∙
-    (c.in_ok-extend_from_slice.ensures.items ∙ ap (λ v. v ++ c.args.lines.now) c.new-raised.ensures.items))
+    (rw (c.in_ok-extend_from_slice.ensures.items, c.new-raised.ensures.items)))
     (c.in_ok-add_key.ensures.from ∙ c.new-explorer.ensures.from) in
     let same : t ≡ record { scope = s; may = [] } = menu_is t.scope s q.may.items [] scope
-    (ap (λ v. v.items) (c.in_ok-add_key.ensures.may ∙ c.new-explorer.ensures.may) ∙ c.new-2.ensures.items) in
+    (cc (c.in_ok-add_key.ensures.may, c.new-explorer.ensures.may, c.new-2.ensures.items)) in
     let count : (s.cpus + length s.lines) + s.cpus * 0 ≡ s.cpus + length s.lines = omega arith in
     e (subst (λ v. All (λ k. k < (menu_model first v).choices) c.args.way.now) (sym same)
-    (subst (λ n. All (λ k. k < n) c.args.way.now) (sym count) all))) c.check_part.ensures.can
+    (rw count all))) c.check_part.ensures.can
 
 pub returns-clause-closed : goal.returns-clause-closed
 returns-clause-closed g c = if_ok c.check_part.result _ _ (λ r e p is.
@@ -54,12 +52,16 @@ returns-clause-closed g c = if_ok c.check_part.result _ _ (λ r e p is.
     let machine : q.machine ≡ c.new-machine.result = c.in_ok-add_key.ensures.machine ∙ c.new-explorer.ensures.machine in
     let scope : t.scope ≡ s = scope_is
     (length q.machine.cpus) c.args.cpus q.lines.items c.args.lines.now q.from c.args.from
-    (ap (λ y. length y.cpus) machine ∙ c.new-machine.ensures.count)
-    (ap (λ v. v.items) (c.in_ok-add_key.ensures.lines ∙ c.new-explorer.ensures.lines) ∙
-    (c.in_ok-extend_from_slice.ensures.items ∙ ap (λ v. v ++ c.args.lines.now) c.new-raised.ensures.items))
+    (cc (c.new-machine.ensures.count))
+    (simp (
+      c.in_ok-add_key.ensures.lines,
+      c.new-explorer.ensures.lines,
+      c.in_ok-extend_from_slice.ensures.items,
+      c.new-raised.ensures.items,
+    ))
     (c.in_ok-add_key.ensures.from ∙ c.new-explorer.ensures.from) in
     let same : t ≡ record { scope = s; may = [] } = menu_is t.scope s q.may.items [] scope
-    (ap (λ v. v.items) (c.in_ok-add_key.ensures.may ∙ c.new-explorer.ensures.may) ∙ c.new-2.ensures.items) in
+    (cc (c.in_ok-add_key.ensures.may, c.new-explorer.ensures.may, c.new-2.ensures.items)) in
     closed_usual first s (portion_of p)
     (subst (λ v. IsClosedPart (menu_model first v) (portion_of p)) same (e p is))) c.check_part.ensures.closed
 
@@ -72,17 +74,20 @@ returns-clause-reached g c = if_ok c.check_part.result _ _ (λ r e p n words is 
     let machine : q.machine ≡ c.new-machine.result = c.in_ok-add_key.ensures.machine ∙ c.new-explorer.ensures.machine in
     let scope : t.scope ≡ s = scope_is
     (length q.machine.cpus) c.args.cpus q.lines.items c.args.lines.now q.from c.args.from
-    (ap (λ y. length y.cpus) machine ∙ c.new-machine.ensures.count)
-    (ap (λ v. v.items) (c.in_ok-add_key.ensures.lines ∙ c.new-explorer.ensures.lines) ∙
-    (c.in_ok-extend_from_slice.ensures.items ∙ ap (λ v. v ++ c.args.lines.now) c.new-raised.ensures.items))
+    (cc (c.new-machine.ensures.count))
+    (simp (
+      c.in_ok-add_key.ensures.lines,
+      c.new-explorer.ensures.lines,
+      c.in_ok-extend_from_slice.ensures.items,
+      c.new-raised.ensures.items,
+    ))
     (c.in_ok-add_key.ensures.from ∙ c.new-explorer.ensures.from) in
     let same : t ≡ record { scope = s; may = [] } = menu_is t.scope s q.may.items [] scope
-    (ap (λ v. v.items) (c.in_ok-add_key.ensures.may ∙ c.new-explorer.ensures.may) ∙ c.new-2.ensures.items) in
+    (cc (c.in_ok-add_key.ensures.may, c.new-explorer.ensures.may, c.new-2.ensures.items)) in
     let m : Moment = first_moment words n c.args.cpus in
-    let stands = c.new-machine.ensures.stands n words (subst (λ v. IsBooted n words v)
-    (sym c.in_ok-journal.ensures) b) in
+    let stands = c.new-machine.ensures.stands n words (simp c.in_ok-journal.ensures b) in
     let count : length c.new-explorer.result.machine.cpus ≡ length q.machine.cpus =
-    ap (λ y. length y.cpus) (sym c.in_ok-add_key.ensures.machine) in
+    simp (← c.in_ok-add_key.ensures.machine) in
     let key : IsKeyOf first t.scope c.as_slice.result.now m =
     begun (boot_world_with words n c.args.cpus) stands c.new-explorer.ensures.machine
     c.in_ok-add_key.ensures.count count c.new-start.ensures.items
@@ -99,17 +104,16 @@ returns-clause-begins g c = if_ok c.check_part.result _ _ (λ r e p n words is b
     let machine : q.machine ≡ c.new-machine.result = c.in_ok-add_key.ensures.machine ∙ c.new-explorer.ensures.machine in
     let scope : t.scope ≡ s = scope_is
     (length q.machine.cpus) c.args.cpus q.lines.items c.args.lines.now q.from c.args.from
-    (ap (λ y. length y.cpus) machine ∙ c.new-machine.ensures.count)
+    (cc (c.new-machine.ensures.count))
     (ap (λ v. v.items) (c.in_ok-add_key.ensures.lines ∙ c.new-explorer.ensures.lines) ∙
-    (c.in_ok-extend_from_slice.ensures.items ∙ ap (λ v. v ++ c.args.lines.now) c.new-raised.ensures.items))
+    (rw (c.in_ok-extend_from_slice.ensures.items, c.new-raised.ensures.items)))
     (c.in_ok-add_key.ensures.from ∙ c.new-explorer.ensures.from) in
     let same : t ≡ record { scope = s; may = [] } = menu_is t.scope s q.may.items [] scope
-    (ap (λ v. v.items) (c.in_ok-add_key.ensures.may ∙ c.new-explorer.ensures.may) ∙ c.new-2.ensures.items) in
+    (cc (c.in_ok-add_key.ensures.may, c.new-explorer.ensures.may, c.new-2.ensures.items)) in
     let m : Moment = first_moment words n c.args.cpus in
-    let stands = c.new-machine.ensures.stands n words (subst (λ v. IsBooted n words v)
-    (sym c.in_ok-journal.ensures) b) in
+    let stands = c.new-machine.ensures.stands n words (simp c.in_ok-journal.ensures b) in
     let count : length c.new-explorer.result.machine.cpus ≡ length q.machine.cpus =
-    ap (λ y. length y.cpus) (sym c.in_ok-add_key.ensures.machine) in
+    simp (← c.in_ok-add_key.ensures.machine) in
     let key : IsKeyOf first t.scope c.as_slice.result.now m =
     begun (boot_world_with words n c.args.cpus) stands c.new-explorer.ensures.machine
     c.in_ok-add_key.ensures.count count c.new-start.ensures.items
@@ -126,12 +130,12 @@ returns-clause-exact g c = if_ok c.check_part.result _ _ (λ r e some.
     let machine : q.machine ≡ c.new-machine.result = c.in_ok-add_key.ensures.machine ∙ c.new-explorer.ensures.machine in
     let scope : t.scope ≡ s = scope_is
     (length q.machine.cpus) c.args.cpus q.lines.items c.args.lines.now q.from c.args.from
-    (ap (λ y. length y.cpus) machine ∙ c.new-machine.ensures.count)
+    (cc (c.new-machine.ensures.count))
     (ap (λ v. v.items) (c.in_ok-add_key.ensures.lines ∙ c.new-explorer.ensures.lines) ∙
-    (c.in_ok-extend_from_slice.ensures.items ∙ ap (λ v. v ++ c.args.lines.now) c.new-raised.ensures.items))
+    (rw (c.in_ok-extend_from_slice.ensures.items, c.new-raised.ensures.items)))
     (c.in_ok-add_key.ensures.from ∙ c.new-explorer.ensures.from) in
     let same : t ≡ record { scope = s; may = [] } = menu_is t.scope s q.may.items [] scope
-    (ap (λ v. v.items) (c.in_ok-add_key.ensures.may ∙ c.new-explorer.ensures.may) ∙ c.new-2.ensures.items) in
+    (cc (c.in_ok-add_key.ensures.may, c.new-explorer.ensures.may, c.new-2.ensures.items)) in
     let count : (s.cpus + length s.lines) + s.cpus * 0 ≡ s.cpus + length s.lines = omega arith in
     subst (λ n. All (λ k. k < n) c.args.way.now) count
     (subst (λ v. All (λ k. k < (menu_model first v).choices) c.args.way.now) same (e some))) c.check_part.ensures.exact
@@ -145,17 +149,20 @@ returns-clause-says g c = if_ok c.check_part.result _ _ (λ r e p n words is b.
     let machine : q.machine ≡ c.new-machine.result = c.in_ok-add_key.ensures.machine ∙ c.new-explorer.ensures.machine in
     let scope : t.scope ≡ s = scope_is
     (length q.machine.cpus) c.args.cpus q.lines.items c.args.lines.now q.from c.args.from
-    (ap (λ y. length y.cpus) machine ∙ c.new-machine.ensures.count)
-    (ap (λ v. v.items) (c.in_ok-add_key.ensures.lines ∙ c.new-explorer.ensures.lines) ∙
-    (c.in_ok-extend_from_slice.ensures.items ∙ ap (λ v. v ++ c.args.lines.now) c.new-raised.ensures.items))
+    (cc (c.new-machine.ensures.count))
+    (simp (
+      c.in_ok-add_key.ensures.lines,
+      c.new-explorer.ensures.lines,
+      c.in_ok-extend_from_slice.ensures.items,
+      c.new-raised.ensures.items,
+    ))
     (c.in_ok-add_key.ensures.from ∙ c.new-explorer.ensures.from) in
     let same : t ≡ record { scope = s; may = [] } = menu_is t.scope s q.may.items [] scope
-    (ap (λ v. v.items) (c.in_ok-add_key.ensures.may ∙ c.new-explorer.ensures.may) ∙ c.new-2.ensures.items) in
+    (cc (c.in_ok-add_key.ensures.may, c.new-explorer.ensures.may, c.new-2.ensures.items)) in
     let m : Moment = first_moment words n c.args.cpus in
-    let stands = c.new-machine.ensures.stands n words (subst (λ v. IsBooted n words v)
-    (sym c.in_ok-journal.ensures) b) in
+    let stands = c.new-machine.ensures.stands n words (simp c.in_ok-journal.ensures b) in
     let count : length c.new-explorer.result.machine.cpus ≡ length q.machine.cpus =
-    ap (λ y. length y.cpus) (sym c.in_ok-add_key.ensures.machine) in
+    simp (← c.in_ok-add_key.ensures.machine) in
     let start = c.as_slice.result.now in
     let key : IsKeyOf first t.scope start m =
     begun (boot_world_with words n c.args.cpus) stands c.new-explorer.ensures.machine
@@ -163,7 +170,7 @@ returns-clause-says g c = if_ok c.check_part.result _ _ (λ r e p n words is b.
     (c.as_slice.ensures.value ∙ c.in_ok-add_key.ensures.key) in (
       start,
       (
-        subst (λ v. IsKeyOf first v start m) scope key,
+        simp (← scope) key,
         portion_usual first s start c.args.way.now c.args.marks.now (portion_of p)
             (subst (λ v. IsPortionOf (menu_model first v) start c.args.way.now c.args.marks.now (portion_of p)) same
             (e p is)),

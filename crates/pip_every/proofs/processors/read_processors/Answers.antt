@@ -15,5 +15,5 @@ loop-i-preserved c = record {
   read = read_next c.args.words.now c.args.count c.loop-i._i c.loop-i.cpus.items c.push.new.self.items
       c.read_running-runs.result.0 c.loop-i.rest.now c.read_running-runs.result.1.now c.loop-i-test.true
       c.push.ensures.items c.read_running-runs.ensures c.loop-i.invariant.read;
-  count = omega (arith, c.loop-i.invariant.count, c.push.ensures.len);
+  count = omega arith;
 }

@@ -1,5 +1,5 @@
 -- Where the first word isn't 0, a partition runs.
-use Rattle.std.proofs.Common.{◌+◌, ◌∙◌, slice_index, Some, ap}
+use Rattle.std.proofs.Common.{◌+◌, ◌∙◌, slice_index}
 use Rattle.std.proofs.lemmas.List.{take_rest}
 use Rattle.pip_every.proofs.Words.{can_hold, read_some}
 use Rattle.pip_every.proofs.processors.read_running.Goals as goal
@@ -19,4 +19,4 @@ slice_bounds-result-start-2 c =
 pub returns : goal.returns
 returns c o rest b =
     let r = read_some c.args.words.now c.if-words-eq0.false o rest b in
-    (ap Some c.read_occupant.ensures ∙ r.0, take_rest c.args.words.now (3 + slice_index c.args.words.now 2) ∙ r.1)
+    (rw (c.read_occupant.ensures, r.0), take_rest c.args.words.now (3 + slice_index c.args.words.now 2) ∙ r.1)

@@ -2,7 +2,6 @@
 use Rattle.std.proofs.Common.{length, subst}
 use Rattle.pip_search.specs.Summary.{IsTold}
 use Rattle.pip_search.specs.Ways.{witnesses_of}
-use Rattle.pip_every.specs.Explained.{IsExplained}
 use Rattle.pip_every.specs.Menus.{menu_model}
 use Rattle.pip_every.specs.Moments.{Scope, first_moment}
 use Rattle.pip_every.proofs.Keying.{if_ok}
@@ -21,8 +20,4 @@ returns-clause-told c = if_ok c.search_against.result _ _ (λ r e n words b.
 
 pub returns-clause-explains : goal.returns-clause-explains
 returns-clause-explains c = if_ok c.search_against.result _ _ (λ r e n words b.
-    subst (λ ds. IsExplained (record {
-      scope = record { cpus = c.args.cpus; lines = c.args.lines.now; from = c.args.from };
-      may = ds;
-    }) (length c.args.mem.block.frames) (first_moment words n c.args.cpus) r.0 r.1) c.new-may.ensures.items
-    (e n words b)) c.search_against.ensures.explains
+    rw (← c.new-may.ensures.items) (e n words b)) c.search_against.ensures.explains

@@ -1,34 +1,21 @@
 -- The search begins at the first moment.
-use Rattle.std.proofs.Common.{sym, subst, length}
+use Rattle.std.proofs.Common.{sym, subst}
 use Rattle.pip_model.specs.Booted.{IsBooted}
 use Rattle.pip_model.specs.Worlds.{boot_world_with}
-use Rattle.pip_search.specs.Keys.{visits_of}
-use Rattle.pip_search.specs.Reached.{Tells}
-use Rattle.pip_search.specs.Summary.{IsTold}
-use Rattle.pip_search.specs.Ways.{witnesses_of}
-use Rattle.pip_every.specs.Menus.{menu_model}
-use Rattle.pip_every.specs.Moments.{first_moment}
 use Rattle.pip_every.proofs.searching.search_from.Goals as goal
 
 pub search_on-requires-clause-stands : goal.search_on-requires-clause-stands
 search_on-requires-clause-stands g c =
     let b = c.requires.booted in (
       boot_world_with b.words b.frames c.args.cpus,
-      c.new-machine.ensures.stands b.frames b.words (subst (λ v. IsBooted b.frames b.words v)
-          (sym c.in_ok-journal.ensures) b.booted),
+      c.new-machine.ensures.stands b.frames b.words (rw c.in_ok-journal.ensures b.booted),
     )
 
 pub returns-clause-told : goal.returns-clause-told
 returns-clause-told g c = λ n words b.
     let r = c.in_ok-search in
     let first = c.args.mem.block.frames in
-    subst (λ k. IsTold (menu_model first (record {
-      scope = record { cpus = k; lines = c.args.lines.now; from = c.args.from };
-      may = c.args.may.items;
-    })) (first_moment words n c.args.cpus) c.args.most c.args.limit
-    (witnesses_of r.extent r.search.visits.items r.search.found.items) (length r.search.visits.items) r.extent)
-    c.new-machine.ensures.count
-    (r.ensures.told (boot_world_with words n c.args.cpus) first
+    rw c.new-machine.ensures.count at (r.ensures.told (boot_world_with words n c.args.cpus) first
     (c.new-machine.ensures.stands n words (subst (λ v. IsBooted n words v) (sym c.in_ok-journal.ensures) b))
     b.laid.shape c.requires.count)
 
@@ -39,10 +26,6 @@ returns-clause-explains g c = λ n words b.
       first = g.F.First.words;
       shape = c.requires.shape;
       count = sym c.requires.count;
-      tells = subst (λ k. Tells (menu_model g.F.First.words (record {
-        scope = record { cpus = k; lines = c.args.lines.now; from = c.args.from };
-        may = c.args.may.items;
-      })) (first_moment words n c.args.cpus) (visits_of r.search) r.search.found.items r.extent)
-          c.new-machine.ensures.count (r.ensures.explains (boot_world_with words n c.args.cpus)
+      tells = rw c.new-machine.ensures.count at (r.ensures.explains (boot_world_with words n c.args.cpus)
           (c.new-machine.ensures.stands n words (subst (λ v. IsBooted n words v) (sym c.in_ok-journal.ensures) b)));
     }

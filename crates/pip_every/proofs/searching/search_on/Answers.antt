@@ -1,15 +1,13 @@
 -- The search begins at the moment of each world for which the machine stands.
-use Rattle.std.proofs.Common.{◌≡◌, ◌≤◌, ◌∙◌, ◌++◌, ap, length, map, subst, sym}
+use Rattle.std.proofs.Common.{◌≡◌, ◌∙◌, ap, length, map, subst, sym}
 use Rattle.pip_away.specs.Blind.{left_out}
 use Rattle.pip_model.specs.Worlds.{World}
 use Rattle.pip_search.specs.Keys.{visits_of}
 use Rattle.pip_search.specs.Reached.{Tells}
 use Rattle.pip_search.specs.Systems.{IsKey}
 use Rattle.pip_search.specs.Ways.{witnesses_of}
-use Rattle.pip_every.specs.Again.{AreSaid}
 use Rattle.pip_switch.specs.Standing.{StandsAs}
 use Rattle.pip_every.specs.Choosing.{machine_menu}
-use Rattle.pip_every.specs.Comes.{AreComing, own_classes}
 use Rattle.pip_every.specs.Explored.{explored}
 use Rattle.pip_every.specs.Keys.{IsKeyOf}
 use Rattle.pip_every.specs.Menus.{Menu, menu_model, usual_choices}
@@ -25,7 +23,7 @@ pub explore-requires-clause-key : goal.explore-requires-clause-key
 explore-requires-clause-key g c =
     let (w, stands) = c.requires.stands in
     let count : length c.new-explorer.result.machine.cpus ≡ length c.add_key.new.self.machine.cpus =
-    ap (λ p. length p.cpus) (sym c.in_ok-add_key.ensures.machine) in (
+    rw (← c.in_ok-add_key.ensures.machine) in (
       moment_at w,
       begun w stands c.new-explorer.ensures.machine c.in_ok-add_key.ensures.count count c.new-key.ensures.items
           (c.as_slice-start.ensures.value ∙ c.in_ok-add_key.ensures.key),
@@ -35,7 +33,7 @@ pub say_all-requires-clause-key : goal.say_all-requires-clause-key
 say_all-requires-clause-key g c =
     let (w, stands) = c.requires.stands in
     let count : length c.new-explorer.result.machine.cpus ≡ length c.add_key.new.self.machine.cpus =
-    ap (λ p. length p.cpus) (sym c.in_ok-add_key.ensures.machine) in
+    rw (← c.in_ok-add_key.ensures.machine) in
     subst (λ t. IsKey (menu_model g.F.First.words t) c.as_slice-start.result.now) (sym c.in_ok-search.ensures.base) (
       moment_at w,
       begun w stands c.new-explorer.ensures.machine c.in_ok-add_key.ensures.count count c.new-key.ensures.items
@@ -49,7 +47,7 @@ pub say_coming-requires-clause-key : goal.say_coming-requires-clause-key
 say_coming-requires-clause-key g c =
     let (w, stands) = c.requires.stands in
     let count : length c.new-explorer.result.machine.cpus ≡ length c.add_key.new.self.machine.cpus =
-    ap (λ p. length p.cpus) (sym c.in_ok-add_key.ensures.machine) in
+    rw (← c.in_ok-add_key.ensures.machine) in
     subst (λ t. IsKey (menu_model g.F.First.words t) c.as_slice-start.result.now)
     (sym (c.in_ok-again.ensures.base ∙ c.in_ok-search.ensures.base)) (
       moment_at w,
@@ -64,7 +62,7 @@ pub say_away-requires-clause-key : goal.say_away-requires-clause-key
 say_away-requires-clause-key g c =
     let (w, stands) = c.requires.stands in
     let count : length c.new-explorer.result.machine.cpus ≡ length c.add_key.new.self.machine.cpus =
-    ap (λ p. length p.cpus) (sym c.in_ok-add_key.ensures.machine) in
+    rw (← c.in_ok-add_key.ensures.machine) in
     subst (λ t. IsKey (menu_model g.F.First.words t) c.as_slice-start.result.now)
     (sym (c.in_ok-comes.ensures.base ∙ c.in_ok-again.ensures.base ∙ c.in_ok-search.ensures.base)) (
       moment_at w,
@@ -80,24 +78,28 @@ returns g c =
     let t : Menu = machine_menu p.machine p.lines.items p.from p.may.items in
     let machine : p.machine ≡ c.args.machine = c.in_ok-add_key.ensures.machine ∙ c.new-explorer.ensures.machine in
     let count : length c.new-explorer.result.machine.cpus ≡ length p.machine.cpus =
-    ap (λ q. length q.cpus) (sym c.in_ok-add_key.ensures.machine) in
+    rw (← c.in_ok-add_key.ensures.machine) in
     let key : (w : World) → StandsAs c.args.machine w
     → IsKeyOf first t.scope c.as_slice-start.result.now (moment_at w) = λ w stands.
     begun w stands c.new-explorer.ensures.machine c.in_ok-add_key.ensures.count count c.new-key.ensures.items
     (c.as_slice-start.ensures.value ∙ c.in_ok-add_key.ensures.key) in
     let same : t ≡ all = menu_is t.scope all.scope p.may.items c.args.may.items
     (scope_is (length p.machine.cpus) (length c.args.machine.cpus) p.lines.items c.args.lines.now p.from c.args.from
-    (ap (λ q. length q.cpus) machine)
-    (ap (λ v. v.items) (c.in_ok-add_key.ensures.lines ∙ c.new-explorer.ensures.lines) ∙
-    (c.in_ok-extend_from_slice.ensures.items ∙ ap (λ v. v ++ c.args.lines.now) c.new-raised.ensures.items))
+    (rw machine)
+    (rw (
+      c.in_ok-add_key.ensures.lines,
+      c.new-explorer.ensures.lines,
+      c.in_ok-extend_from_slice.ensures.items,
+      c.new-raised.ensures.items,
+    ))
     (c.in_ok-add_key.ensures.from ∙ c.new-explorer.ensures.from))
-    (ap (λ v. v.items) (c.in_ok-add_key.ensures.may ∙ c.new-explorer.ensures.may)) in
+    (rw (c.in_ok-add_key.ensures.may, c.new-explorer.ensures.may)) in
     let now : Menu = explored c.explore.new.system in
     let base : now ≡ t = c.in_ok-search.ensures.base in
     let later : Menu = explored c.say_all.new.system in
-    let next : later ≡ t = c.in_ok-again.ensures.base ∙ base in
+    let next : later ≡ t = cc (c.in_ok-again.ensures.base) in
     let last : Menu = explored c.say_coming.new.system in
-    let rest : last ≡ t = c.in_ok-comes.ensures.base ∙ next in
+    let rest : last ≡ t = cc (c.in_ok-comes.ensures.base) in
     let r = c.in_ok-search in
     let end = r.extent in
     let ws = witnesses_of end r.search.visits.items r.search.found.items in
@@ -106,24 +108,22 @@ returns g c =
       told = λ w other stands shape frames. rebased first other all (moment_at w) c.args.most c.args.limit ws seen end
           c.requires.shape shape (sym frames) (told_at first t all (moment_at w) c.args.most c.args.limit ws seen end
           same (r.ensures.told (one_key first t.scope) (moment_at w) (key w stands)));
-      said = λ w other stands. subst (λ ls. AreSaid (menu_model other all) (usual_choices all) (moment_at w)
-          (map (λ l. l.items) ls) end c.in_ok-again.again.items) c.as_slice.ensures.value
+      said = λ w other stands. rw (← c.as_slice.ensures.value)
           (rebased_said first other now all c.usual_choices-width.result (moment_at w)
           (map (λ l. l.items) c.as_slice.result.now) end c.in_ok-again.again.items (base ∙ same)
           c.usual_choices-width.ensures (c.in_ok-again.ensures.said (moment_at w)
           (subst (λ k. IsKeyOf first k.scope c.as_slice-start.result.now (moment_at w)) (sym base) (key w stands))));
-      coming = λ w other stands. subst (λ ls. AreComing (menu_model other all) (own_classes (usual_choices all))
-          (moment_at w) (map (λ l. l.items) ls) end c.in_ok-comes.comes.items) c.as_slice-2.ensures.value
+      coming = λ w other stands. rw (← c.as_slice-2.ensures.value)
           (rebased_coming first other later all c.usual_choices-width.result (moment_at w)
           (map (λ l. l.items) c.as_slice-2.result.now) end c.in_ok-comes.comes.items (next ∙ same)
           (c.usual_choices-width.ensures ∙ ap usual_choices (sym c.in_ok-again.ensures.base))
           (c.in_ok-comes.ensures.said (moment_at w)
           (subst (λ k. IsKeyOf first k.scope c.as_slice-start.result.now (moment_at w)) (sym next) (key w stands))));
       away = λ w other stands shape frames. rebased_away first other (left_out c.args.asked.now.blind) last all
-          (moment_at w) end c.in_ok-away.away (rest ∙ same) (c.in_ok-away.ensures (moment_at w)
+          (moment_at w) end c.in_ok-away.away (cc) (c.in_ok-away.ensures (moment_at w)
           (subst (λ k. IsKeyOf first k.scope c.as_slice-start.result.now (moment_at w)) (sym rest) (key w stands)));
       explains = λ w stands. subst (λ v. Tells (menu_model first v) (moment_at w) (visits_of r.search)
           r.search.found.items end) same (r.ensures.explains (moment_at w) (key w stands));
       traced = r.ensures.traced;
-      room = subst (λ n. n ≤ c.args.limit) r.search.visits.ok.0 r.ensures.room;
+      room = rw (← r.search.visits.ok.0) r.ensures.room;
     }

@@ -1,9 +1,7 @@
-use Rattle.std.proofs.Common.{◌∙◌, sym, ap}
-use Rattle.std.specs.Prelude.{option_map}
 use Rattle.pip_apart.proofs.Machines.{asks_none}
 use Rattle.pip_apart.proofs.guest.Guest.asks.Goals as goal
 
 pub returns-then-ctx-ne0-clause-asks : goal.returns-then-ctx-ne0-clause-asks
 returns-then-ctx-ne0-clause-asks g c w s =
-    asks_none c.args.self.now.top w c.args.cpu c.in-Some-ctx.ctx.now (sym (c.ctx.ensures w s)
-    ∙ ap (option_map (λ x. x.now)) c.in-Some-ctx.is) c.if-ctx-ne0.true
+    asks_none c.args.self.now.top w c.args.cpu c.in-Some-ctx.ctx.now (rw (← c.ctx.ensures w s, c.in-Some-ctx.is))
+    c.if-ctx-ne0.true

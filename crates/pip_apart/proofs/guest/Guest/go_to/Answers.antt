@@ -1,5 +1,5 @@
 -- The words of a key are those of each world that has it.
-use Rattle.std.proofs.Common.{◌∙◌, ◌<◌, ap, length, refl, subst, sym, slice_index_or}
+use Rattle.std.proofs.Common.{refl}
 use Rattle.pip_every.proofs.Keying.{can_read, has_read, moved_to}
 use Rattle.pip_apart.proofs.guest.Guest.go_to.Goals as goal
 
@@ -9,7 +9,7 @@ read_processors-cpus-requires-clause-begins g c = can_read c.args.self.now.shape
 pub rewind-requires : goal.rewind-requires
 rewind-requires g c =
     let h = has_read c.args.self.now.shape c.requires.1 c.cpus.ensures c.read_processors-cpus.ensures in
-    record { places = h.places; count = h.count; world = h.world }
+    assumption
 
 pub invariant_of-self : goal.invariant_of-self
 invariant_of-self g c =
@@ -17,8 +17,7 @@ invariant_of-self g c =
     let h = has_read s.shape c.requires.1 c.cpus.ensures c.read_processors-cpus.ensures in
     record {
       shape = s.shape;
-      there = λ k d l. subst (λ n. slice_index_or s.cpus.items k d < n)
-          (sym (ap length c.rewind.ensures.cpus ∙ h.count)) (s.there k d l);
+      there = λ k d l. rw (c.rewind.ensures.cpus, h.count) (s.there k d l);
       few = s.few;
     }
 
@@ -31,4 +30,4 @@ returns-clause-at g c w k =
 pub returns-clause-count : goal.returns-clause-count
 returns-clause-count g c =
     let h = has_read c.args.self.now.shape c.requires.1 c.cpus.ensures c.read_processors-cpus.ensures in
-    ap length c.rewind.ensures.cpus ∙ h.count
+    rw (c.rewind.ensures.cpus, h.count)

@@ -1,4 +1,4 @@
-use Rattle.std.proofs.Common.{ap, refl}
+use Rattle.std.proofs.Common.{refl}
 use Rattle.pip_io.proofs.Taken.{Keeps-refl}
 use Rattle.pip_certificate_parts.specs.Seen.{merging_of}
 use Rattle.pip_command_contracts.proofs.Endings.{ends_same}
@@ -17,7 +17,7 @@ pub returns-in-Ok-clause-ends : goal.returns-in-Ok-clause-ends
 returns-in-Ok-clause-ends g c =
     let merges = c.in-Ok.ensures.merges in
     let end = c.end_merged.ensures in
-    ends_same g.K.Sink.history (ap (λ s. s.now) c.in-Ok.ensures.sink) c.requires.paced.none (λ none.
+    ends_same g.K.Sink.history (rw c.in-Ok.ensures.sink) c.requires.paced.none (λ none.
     merge_merged _ _ _ _ end.flushed end.none none (merging_of c.merge_lines.new.merger) merges.0 (record {
       reads = λ not. merges.1;
       writes = end.no_faults;
@@ -26,13 +26,13 @@ returns-in-Ok-clause-ends g c =
 pub returns-in-Err-Bad-clause-ends : goal.returns-in-Err-Bad-clause-ends
 returns-in-Err-Bad-clause-ends g c =
     let end = c.end_broken.ensures in
-    ends_same g.K.Sink.history (ap (λ s. s.now) c.in-Err-Bad.ensures.sink) c.requires.paced.none (λ none.
+    ends_same g.K.Sink.history (rw c.in-Err-Bad.ensures.sink) c.requires.paced.none (λ none.
     merge_broken _ _ _ _ end.flushed end.none none c.in-Err-Bad.number c.in-Err-Bad.fault c.in-Err-Bad.field-0-is
     c.in-Err-Bad.ensures.merges end.no_faults c.as_slice.ensures.value end.wrote)
 
 pub returns-clause-ends : goal.returns-clause-ends
 returns-clause-ends g c =
     let end = c.with_status-in-Err-Memory.ensures in
-    ends_same g.K.Sink.history (ap (λ s. s.now) c.in-Err-Memory.ensures.sink) c.requires.paced.none (λ none.
-    merge_lacks _ _ _ _ (λ not. none) (ap (λ e. e.machine) end) none (ap (λ e. e.status) end) _
+    ends_same g.K.Sink.history (rw c.in-Err-Memory.ensures.sink) c.requires.paced.none (λ none.
+    merge_lacks _ _ _ _ (λ not. none) (rw end) none (rw end) _
     c.in-Err-Memory.field-0-is c.in-Err-Memory.ensures.merges (Keeps-refl _) refl)

@@ -1,11 +1,8 @@
-use Rattle.std.proofs.Common.{◌≡◌, ◌+◌, ◌++◌, Ok, Err, ap, ◌∙◌, subst, sym}
-use Rattle.pip_io.specs.Pacing.{MayRead}
-use Rattle.pip_io.specs.Moments.{streams}
+use Rattle.std.proofs.Common.{◌+◌, ◌++◌, ◌∙◌}
 use Rattle.pip_io.proofs.Pacing.{paced_after}
 use Rattle.pip_certificate_parts.specs.Seen.{merging_of}
-use Rattle.pip_certificate_commands.specs.LongLines.{IsUnended, TakesNextLine}
-use Rattle.pip_certificate_commands.specs.MergeDues.{BeginsMerge, merge_numbered}
-use Rattle.pip_certificate_commands.specs.MergeReading.{GivesNumbered}
+use Rattle.pip_certificate_commands.specs.LongLines.{IsUnended}
+use Rattle.pip_certificate_commands.specs.MergeDues.{BeginsMerge}
 use Rattle.pip_certificate_commands.proofs.LineReads.{stopped}
 use Rattle.pip_certificate_commands.proofs.MergeReads.{begins_merge, ends, last_ends, line_unread, next_line, read_held}
 use Rattle.pip_certificate_commands.proofs.MergeReads.{whole_stops}
@@ -23,9 +20,7 @@ read_line-requires-clause-paced g c =
     (g.S.Source.history c.loop-before.joint.source.now).left was.at)
     (begins_merge c.loop-before.before m held (g.S.Source.history c.args.joint.now.source.now).left
     (g.S.Source.history c.loop-before.joint.source.now).left was.at) c.requires.paced in
-    subst (λ s. MayRead g.S.Source.allows (IsUnended held) (streams g.S.Source.history g.K.Sink.history
-    c.loop-before.joint.source.now s.now)) (sym was.sink)
-    paced
+    rw was.sink paced
 
 pub returns-in_err-read_line-clause-merges : goal.returns-in_err-read_line-clause-merges
 returns-in_err-read_line-clause-merges g c =
@@ -53,11 +48,9 @@ returns-in_err-take_line-in-Whole-clause-merges g c =
     stopped c.from_residual-in_err-take_line-in-Whole.result _ _ c.from_residual-in_err-take_line-in-Whole.ensures.1
     (whole_stops c.loop-before.before m c.loop-before.reader left before was.at after c.read_line.new.self
     c.read_line.new.line.items
-    (subst (TakesNextLine c.loop-before.reader c.read_line.new.self c.read_line.new.line.items before after)
-    c.in-Whole.is takes.0) (g.S.Source.history c.args.joint.now.source.now).faults
+    (rw c.in-Whole.is at takes.0) (g.S.Source.history c.args.joint.now.source.now).faults
     (g.S.Source.history c.read_line.new.joint.source.now).faults (takes.1 ∙ was.no_faults) more stop
-    (subst (λ l. GivesNumbered n (Err stop) more (merge_numbered n m l)) c.deref.ensures.value
-    c.in_err-take_line-in-Whole.ensures))
+    (rw (← c.deref.ensures.value) c.in_err-take_line-in-Whole.ensures))
 
 pub returns-in-Last-clause-merges : goal.returns-in-Last-clause-merges
 returns-in-Last-clause-merges g c =
@@ -71,12 +64,10 @@ returns-in-Last-clause-merges g c =
     let takes = c.in_ok-read_line.ensures.takes in
     last_ends c.loop-before.before m c.loop-before.reader left before was.at after c.read_line.new.self
     c.read_line.new.line.items
-    (subst (TakesNextLine c.loop-before.reader c.read_line.new.self c.read_line.new.line.items before after)
-    c.in-Last.is takes.0) (g.S.Source.history c.args.joint.now.source.now).faults
+    (rw c.in-Last.is at takes.0) (g.S.Source.history c.args.joint.now.source.now).faults
     (g.S.Source.history c.read_line.new.joint.source.now).faults
     (takes.1 ∙ was.no_faults) more c.take_line-in-Last.result
-    (subst (λ l. GivesNumbered n c.take_line-in-Last.result more (merge_numbered n m l)) c.deref-in-Last.ensures.value
-    c.take_line-in-Last.ensures)
+    (rw (← c.deref-in-Last.ensures.value) c.take_line-in-Last.ensures)
 
 pub returns-in-End-clause-merges : goal.returns-in-End-clause-merges
 returns-in-End-clause-merges g c =
@@ -88,8 +79,7 @@ returns-in-End-clause-merges g c =
     let takes = c.in_ok-read_line.ensures.takes in (
       ends c.loop-before.before m c.loop-before.reader left before was.at after c.read_line.new.self
           c.read_line.new.line.items
-          (subst (TakesNextLine c.loop-before.reader c.read_line.new.self c.read_line.new.line.items before after)
-          c.in-End.is takes.0),
+          (rw c.in-End.is at takes.0),
       takes.1 ∙ was.no_faults,
     )
 
@@ -106,11 +96,10 @@ loop-before-preserved g c =
     record {
       at = next_line c.loop-before.before m c.loop-before.reader left before was.at after c.read_line.new.self
           c.read_line.new.line.items
-          (subst (TakesNextLine c.loop-before.reader c.read_line.new.self c.read_line.new.line.items before after)
-          c.in-Whole.is reads.takes.0) more
-          (subst (λ l. merge_numbered n m l ≡ Ok more) c.deref.ensures.value c.in_ok-take_line-in-Whole.ensures);
+          (rw c.in-Whole.is at reads.takes.0) more
+          (rw (← c.deref.ensures.value) c.in_ok-take_line-in-Whole.ensures);
       name = reads.same_source ∙ was.name;
       sink = reads.sink ∙ was.sink;
-      is_open = reads.is_open (ap Ok c.in-Whole.is);
+      is_open = reads.is_open (rw c.in-Whole.is);
       no_faults = reads.takes.1 ∙ was.no_faults;
     }

@@ -1,9 +1,9 @@
-use Rattle.std.proofs.Common.{ap, ap₂, refl, subst, ◌∙◌, ◌≡◌}
+use Rattle.std.proofs.Common.{ap₂, refl, ◌≡◌}
 use Rattle.pip_io.proofs.Taken.{Keeps-refl}
 use Rattle.pip_command_contracts.proofs.Endings.{ends_same}
-use Rattle.pip_certificate_commands.specs.PartReading.{EndsText, StopsText, part_seen}
+use Rattle.pip_certificate_commands.specs.PartReading.{part_seen}
 use Rattle.pip_certificate_commands.specs.PartShown.{header_said}
-use Rattle.pip_certificate_commands.specs.PartText.{bad_part_line, part_said}
+use Rattle.pip_certificate_commands.specs.PartText.{part_said}
 use Rattle.pip_certificate_commands.proofs.PartEnds.{part_bad, part_checked, part_unheld, part_unread}
 use Rattle.pip_certificate_commands.proofs.commands.part.after_image.Goals as goal
 
@@ -13,10 +13,9 @@ returns-in-Ok-clause-ends g c = λ left l.
     let end = c.end_checked.ensures in
     let said : part_said c.limits_of-limits.result c.size_of-size.result ≡ header_said c.args.begun.head =
     ap₂ part_said c.limits_of-limits.ensures c.size_of-size.ensures.size in
-    ends_same g.K.Sink.history (ap (λ s. s.now) c.in-Ok.ensures.sink) c.requires.none (λ none.
+    ends_same g.K.Sink.history (rw c.in-Ok.ensures.sink) c.requires.none (λ none.
     part_checked c.args.from _ _ _ _ end.flushed end.none none l (part_seen c.in-Ok.read)
-    (subst (λ f. EndsText f (g.S.Source.history c.args.joint.now.source.now).left
-    (g.S.Source.history c.read_part.new.joint.source.now).left (part_seen c.in-Ok.read)) said reads.0) (record {
+    (rw said at reads.0) (record {
       reads = λ not. reads.1;
       writes = end.no_faults;
     })
@@ -27,27 +26,21 @@ returns-in-Err-Bad-clause-ends g c = λ left l.
     let end = c.end_with.ensures in
     let said : part_said c.limits_of-limits.result c.size_of-size.result ≡ header_said c.args.begun.head =
     ap₂ part_said c.limits_of-limits.ensures c.size_of-size.ensures.size in
-    ends_same g.K.Sink.history (ap (λ s. s.now) c.in-Err-Bad.ensures.sink) c.requires.none (λ none.
+    ends_same g.K.Sink.history (rw c.in-Err-Bad.ensures.sink) c.requires.none (λ none.
     part_bad c.args.from _ _ _ _ end.flushed end.none none l c.in-Err-Bad.fault c.in-Err-Bad.field-0-is refl
-    (subst (λ f. StopsText f (g.S.Source.history c.args.joint.now.source.now).left
-    (g.S.Source.history c.read_part.new.joint.source.now).left (g.S.Source.history c.args.joint.now.source.now).faults
-    (g.S.Source.history c.read_part.new.joint.source.now).faults c.in-Err-Bad.field-0) said c.in-Err-Bad.ensures.reads)
+    (rw (← said) c.in-Err-Bad.ensures.reads)
     end.no_faults
-    (c.as_bytes.ensures.value ∙ (c.as_str.ensures.value ∙ (c.bad_part.ensures
-    ∙ ap bad_part_line c.in-Err-Bad.fault-is))) end.wrote)
+    (rw (c.as_bytes.ensures.value, c.as_str.ensures.value, c.bad_part.ensures, c.in-Err-Bad.fault-is)) end.wrote)
 
 pub returns-in-Err-Unread-clause-ends : goal.returns-in-Err-Unread-clause-ends
 returns-in-Err-Unread-clause-ends g c = λ left l.
     let end = c.with_status.ensures in
     let said : part_said c.limits_of-limits.result c.size_of-size.result ≡ header_said c.args.begun.head =
     ap₂ part_said c.limits_of-limits.ensures c.size_of-size.ensures.size in
-    ends_same g.K.Sink.history (ap (λ s. s.now) c.in-Err-Unread.ensures.sink) c.requires.none (λ none.
-    part_unread c.args.from _ _ _ _ (λ not. none) (ap (λ e. e.machine) end) none l (ap (λ e. e.status) end)
+    ends_same g.K.Sink.history (rw c.in-Err-Unread.ensures.sink) c.requires.none (λ none.
+    part_unread c.args.from _ _ _ _ (λ not. none) (rw end) none l (rw end)
     c.in-Err-Unread.field-0-is refl
-    (subst (λ f. StopsText f (g.S.Source.history c.args.joint.now.source.now).left
-    (g.S.Source.history c.read_part.new.joint.source.now).left (g.S.Source.history c.args.joint.now.source.now).faults
-    (g.S.Source.history c.read_part.new.joint.source.now).faults c.in-Err-Unread.field-0) said
-    c.in-Err-Unread.ensures.reads)
+    (rw (← said) c.in-Err-Unread.ensures.reads)
     (Keeps-refl _) refl)
 
 pub returns-clause-ends : goal.returns-clause-ends
@@ -55,11 +48,8 @@ returns-clause-ends g c = λ left l.
     let end = c.with_status-in-Err-Memory.ensures in
     let said : part_said c.limits_of-limits.result c.size_of-size.result ≡ header_said c.args.begun.head =
     ap₂ part_said c.limits_of-limits.ensures c.size_of-size.ensures.size in
-    ends_same g.K.Sink.history (ap (λ s. s.now) c.in-Err-Memory.ensures.sink) c.requires.none (λ none.
-    part_unheld c.args.from _ _ _ _ (λ not. none) (ap (λ e. e.machine) end) none l (ap (λ e. e.status) end)
+    ends_same g.K.Sink.history (rw c.in-Err-Memory.ensures.sink) c.requires.none (λ none.
+    part_unheld c.args.from _ _ _ _ (λ not. none) (rw end) none l (rw end)
     c.in-Err-Memory.field-0-is refl
-    (subst (λ f. StopsText f (g.S.Source.history c.args.joint.now.source.now).left
-    (g.S.Source.history c.read_part.new.joint.source.now).left (g.S.Source.history c.args.joint.now.source.now).faults
-    (g.S.Source.history c.read_part.new.joint.source.now).faults c.in-Err-Memory.field-0) said
-    c.in-Err-Memory.ensures.reads)
+    (rw (← said) c.in-Err-Memory.ensures.reads)
     (Keeps-refl _) refl)

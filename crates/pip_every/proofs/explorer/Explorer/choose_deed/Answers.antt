@@ -1,5 +1,5 @@
 -- A deed of what runs there is done, and another one changes nothing.
-use Rattle.std.proofs.Common.{◌≡◌, ◌∙◌, Some, true, false, ap, sym}
+use Rattle.std.proofs.Common.{◌≡◌, Some, true, false}
 use Rattle.pip_every.specs.Choosing.{machine_menu}
 use Rattle.pip_every.specs.Menus.{Hostile, Menu, Nothing, picked}
 use Rattle.pip_every.proofs.Keying.{if_ok}
@@ -16,7 +16,7 @@ returns-then-is_its-clause-made g c = if_ok c.act.result _ _ (λ n e m at same.
     c.if-is_its.true (root_at s.machine m.world at) (c.runs.ensures (record m.world { caches = s.machine.caches }) at)
     cpu in
     let own : picked all m.world c.args.choice ≡ Hostile c.deed_cpu-cpu.result (Some d.deed) =
-    own_is all m.world c.args.choice d c.deed-may.ensures its ∙ ap (λ x. Hostile x (Some d.deed)) (sym cpu) in
+    rw (own_is all m.world c.args.choice d c.deed-may.ensures its, ← cpu) in
     as_picked all m c.args.choice (Hostile c.deed_cpu-cpu.result (Some d.deed)) c.act.new.self.machine n
     c.act.new.self.label.bytes.items own (e m c.args.choice at same)) c.act.ensures.made
 

@@ -1,6 +1,6 @@
 -- A line is raised, or a processor has its turn.
 use Rattle.std.proofs.slice.Lists.{any-default}
-use Rattle.std.proofs.Common.{◌∙◌, ℕ, ◌-◌, ◌≤◌, ◌<◌, ap, length, slice_index, arith}
+use Rattle.std.proofs.Common.{ℕ, ◌-◌, ◌≤◌, ◌<◌, length, arith}
 use Rattle.pip_every.specs.Moments.{Scope}
 use Rattle.pip_every.proofs.Choosing.{chosen_raise, chosen_turn}
 use Rattle.pip_every.proofs.explorer.Explorer.choose_usual.Goals as goal
@@ -13,14 +13,17 @@ returns-then-choice-cpus-clause-made g c m at same =
       from = c.args.self.now.from;
     } in
     let le : length c.args.self.now.machine.cpus ≤ c.args.choice =
-    omega (arith, c.if-choice-cpus.true, c.cpus-cpus.ensures) in
+    omega arith in
     let i : ℕ = c.args.choice - c.cpus-cpus.result in
     let lt : i < length c.args.self.now.lines.items =
-    omega (arith, c.requires.choice, c.if-choice-cpus.true, c.cpus-cpus.ensures) in
+    omega arith in
     chosen_raise s m c.args.choice c.args.self.now.machine c.raise.new.self c.args.turns c.index-line.result.now
     c.args.self.now.label.bytes.items _ le (c.requires.opened le) same
-    (c.index-line.ensures ∙ (any-default c.args.self.now.lines.items i c.index-line.result.now 0 lt ∙
-    ap (λ v. slice_index c.args.self.now.lines.items (c.args.choice - v)) c.cpus-cpus.ensures)) c.requires.empty
+    (rw (
+      c.index-line.ensures,
+      any-default c.args.self.now.lines.items i c.index-line.result.now 0 lt,
+      c.cpus-cpus.ensures,
+    )) c.requires.empty
     c.raise.ensures.event at
 
 pub returns-in-Ok-clause-made : goal.returns-in-Ok-clause-made
@@ -31,7 +34,7 @@ returns-in-Ok-clause-made g c m at same =
       from = c.args.self.now.from;
     } in
     let lt : c.args.choice < length c.args.self.now.machine.cpus =
-    omega (arith, c.if-choice-cpus.false, c.cpus-cpus.ensures) in
+    omega arith in
     let w = record m.world { caches = c.args.self.now.machine.caches } in
     chosen_turn s m c.args.choice c.args.self.now.machine c.turn.new.port c.args.turns c.turns_after.result
     c.args.self.now.label.bytes.items c.turn.new.sink.bytes.items c.in-Ok.end lt same c.turns_after.ensures

@@ -1,5 +1,5 @@
 -- The words of a key are those of each moment that has it.
-use Rattle.std.proofs.Common.{◌∙◌, ap, length, refl}
+use Rattle.std.proofs.Common.{refl}
 use Rattle.pip_every.specs.Choosing.{machine_scope}
 use Rattle.pip_every.proofs.Keying.{can_read, changed_words, has_read, moved_to, parts}
 use Rattle.pip_every.proofs.explorer.Explorer.go_to.Goals as goal
@@ -10,7 +10,7 @@ read_processors-cpus-requires-clause-begins g c = can_read c.args.self.now.shape
 pub rewind-requires : goal.rewind-requires
 rewind-requires g c =
     let h = has_read c.args.self.now.shape c.requires.1 c.cpus.ensures c.read_processors-cpus.ensures in
-    record { places = h.places; count = h.count; world = h.world }
+    assumption
 
 pub returns-clause-at : goal.returns-clause-at
 returns-clause-at g c m k =
@@ -23,7 +23,7 @@ returns-clause-at g c m k =
 pub returns-clause-count : goal.returns-clause-count
 returns-clause-count g c =
     let h = has_read c.args.self.now.shape c.requires.1 c.cpus.ensures c.read_processors-cpus.ensures in
-    ap length c.rewind.ensures.cpus ∙ h.count
+    rw (c.rewind.ensures.cpus, h.count)
 
 pub returns-clause-changed : goal.returns-clause-changed
 returns-clause-changed g c =

@@ -1,7 +1,6 @@
 -- The key of a moment says what runs there.
-use Rattle.std.proofs.Common.{◌∙◌, false, ap, arith}
+use Rattle.std.proofs.Common.{false, arith}
 use Rattle.pip_model.proofs.Trees.Ancestry.{root_is_one}
-use Rattle.pip_switch.specs.Occupied.{part_on}
 use Rattle.pip_every.specs.Choosing.{machine_menu}
 use Rattle.pip_every.specs.Menus.{Menu}
 use Rattle.pip_every.proofs.Keying.{can_read, has_read, was_read}
@@ -13,8 +12,7 @@ read_processors-runs-requires-clause-begins g c = can_read c.args.self.now.shape
 
 pub name_at-name-requires : goal.name_at-name-requires
 name_at-name-requires g c =
-    let h = has_read c.args.self.now.shape c.requires.key.1 c.cpus.ensures c.read_processors-runs.ensures in
-    omega (arith, c.deed_cpu.ensures.there, h.count)
+    omega (arith, has_read c.args.self.now.shape c.requires.key.1 c.cpus.ensures c.read_processors-runs.ensures)
 
 pub returns : goal.returns
 returns g c none m k =
@@ -23,5 +21,5 @@ returns g c none m k =
     let read = was_read s.shape k c.cpus.ensures c.read_processors-runs.ensures in
     let its = its_is m.world c.deed_cpu.result _ c.name_at-name.result c.deed.result c.is_its.result false
     c.is_its.ensures none (root_is_one m.world.tree k.stands.sound.tree)
-    (c.name_at-name.ensures ∙ ap (λ os. part_on os c.deed_cpu.result) read.0) c.deed_cpu.ensures.cpu in
+    (rw (c.name_at-name.ensures, read.0)) c.deed_cpu.ensures.cpu in
     others_is all m.world c.args.choice c.deed.result c.deed.ensures its

@@ -1,9 +1,9 @@
 -- The key of the last moment was added.
-use Rattle.std.proofs.Common.{◌≡◌, ◌∙◌, ◌++◌, [], ap, arith, refl, subst, take}
+use Rattle.std.proofs.Common.{◌≡◌, ◌∙◌, ◌++◌, [], ap, arith, refl, take}
 use Rattle.std.proofs.lemmas.List.{take_all}
 use Rattle.pip_search.specs.Systems.{after_way}
 use Rattle.pip_every.specs.Choosing.{IsMade, machine_menu}
-use Rattle.pip_every.specs.Keys.{IsKeyOf, key_words}
+use Rattle.pip_every.specs.Keys.{key_words}
 use Rattle.pip_every.specs.Menus.{Menu, menu_model}
 use Rattle.pip_every.specs.Moments.{Moment}
 use Rattle.pip_every.proofs.Keying.{if_both, keyed}
@@ -19,10 +19,10 @@ returns-clause-leads g c = if_both c.add_key.result _ _ _ (λ x is frames m k.
     let i = c.loop-choice.choice-index in
     let at = c.loop-choice.invariant.at m k in
     let whole : take i c.args.way.now ≡ c.args.way.now =
-    take_all i c.args.way.now (omega (arith, c.loop-choice-test.false)) in
+    take_all i c.args.way.now (omega arith) in
     let end : Moment = after_way (menu_model first all) m (take i c.args.way.now) in
     let made : IsMade end [] q turns [] = record { world = at.0; turns_are = at.1; label_is = refl } in
-    subst (λ cs. IsKeyOf first all.scope c.add_key.new.to.items (after_way (menu_model first all) m cs)) whole
-    (keyed first all.scope end [] q turns [] c.add_key.new.to.items made frames c.loop-choice.invariant.count
-    (is ∙ ap (λ v. v ++ key_words first turns q.cpus q.memory) c.clear.ensures.items))) c.add_key.ensures.key
+    rw (← whole) (keyed first all.scope end [] q turns [] c.add_key.new.to.items made frames
+    c.loop-choice.invariant.count (is ∙ ap (λ v. v ++ key_words first turns q.cpus q.memory) c.clear.ensures.items)))
+    c.add_key.ensures.key
     c.add_key.ensures.count

@@ -15,8 +15,8 @@ returns-clause-leads g c = if_both c.add_next.result _ _ _ (λ x is frames m k.
     let moved = c.go_to-turns.ensures in
     let same : machine_menu there.machine there.lines.items there.from there.may.items ≡ all =
     menu_is _ _ there.may.items s.may.items (scope_is (length there.machine.cpus) (length s.machine.cpus)
-    there.lines.items s.lines.items there.from s.from moved.count (ap (λ v. v.items) moved.lines) moved.from)
-    (ap (λ v. v.items) moved.may) in
+    there.lines.items s.lines.items there.from s.from moved.count (rw moved.lines) moved.from)
+    (rw moved.may) in
     let q = c.choose.new.self.machine in
     let label = c.choose.new.self.label.bytes.items in
     let turns = c.in_ok-turns.turns in
@@ -27,6 +27,5 @@ returns-clause-leads g c = if_both c.add_next.result _ _ _ (λ x is frames m k.
       keyed first all.scope (menu_after all m c.args.choice) (menu_label all m c.args.choice) q turns label
           c.add_next.new.to.items made frames (c.in_ok-turns.ensures.count ∙ moved.count)
           (is ∙ ap (λ v. v ++ key_words first turns q.cpus q.memory) c.clear.ensures.items),
-      c.in_ok-extend_from_slice.ensures.items ∙ (ap (λ v. v ++ c.bytes.result.now) c.clear-2.ensures.items
-          ∙ (c.bytes.ensures ∙ made.label_is)),
+      rw (c.in_ok-extend_from_slice.ensures.items, c.clear-2.ensures.items, c.bytes.ensures, made.label_is),
     )) c.add_next.ensures.key c.add_next.ensures.count

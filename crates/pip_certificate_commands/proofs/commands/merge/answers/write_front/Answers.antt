@@ -1,10 +1,8 @@
-use Rattle.std.proofs.Common.{rules, subst}
-use Rattle.std.specs.Prelude.{flat_map}
+use Rattle.std.proofs.Common.{rules}
 use Rattle.std.proofs.lemmas.Result.{MatchResult-from_err}
-use Rattle.pip_io.specs.Taken.{Appends, AppendsPart, Wrote}
 use Rattle.pip_certificate_parts.specs.Seen.{merging_of}
 use Rattle.pip_io.proofs.Piecewise.{part_longer, wrote_of}
-use Rattle.pip_certificate_commands.specs.MergeDues.{about_line, label_line}
+use Rattle.pip_certificate_commands.specs.MergeDues.{about_line}
 use Rattle.pip_certificate_commands.proofs.commands.merge.answers.write_front.Goals as goal
 
 pub returns-in_err-write_about : goal.returns-in_err-write_about
@@ -14,8 +12,7 @@ returns-in_err-write_about g c =
     let b = (g.K.Sink.history c.write_about.new.sink).written in
     record {
       wrote = MatchResult-from_err c.from_residual.result _ _ c.from_residual.ensures.0 (λ _.
-          part_longer _ _ (about_line m.parts.about) _ (subst (λ t. AppendsPart a b (about_line t)) c.about.ensures
-          c.in_err-write_about.ensures.wrote));
+          part_longer _ _ (about_line m.parts.about) _ (rw (← c.about.ensures) c.in_err-write_about.ensures.wrote));
       cause = search rules;
     }
 
@@ -27,8 +24,7 @@ returns g c =
     let d = (g.K.Sink.history c.write_labels.new.sink).written in
     record {
       wrote = wrote_of _ _ _ (about_line m.parts.about) _ c.write_labels.result
-          (subst (λ t. Appends a b (about_line t)) c.about.ensures c.in_ok-write_about.ensures.wrote)
-          (subst (λ ls. Wrote c.write_labels.result b d (flat_map label_line ls)) c.labels.ensures
-          c.write_labels.ensures.wrote);
+          (rw c.about.ensures at c.in_ok-write_about.ensures.wrote)
+          (rw (← c.labels.ensures) c.write_labels.ensures.wrote);
       cause = search rules;
     }

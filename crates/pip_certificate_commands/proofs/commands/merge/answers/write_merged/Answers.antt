@@ -27,9 +27,8 @@ returns-in_err-write_verdict g c =
     record {
       whole = search rules;
       part = on_err _ _ (part_sent _ _ _ (part_after _ _ _ (merged_front m) _ c.in_ok-write_front.ensures.wrote
-          (subst (λ n. AppendsPart b d (verdict_line n (Closed m.keys.deepest))) c.states.ensures
-          (subst (λ n. AppendsPart b d (verdict_line c.states.result (Closed n))) c.deepest-depth.ensures
-          c.in_err-write_verdict.ensures.wrote))));
+          (rw (← c.states.ensures) (subst (λ n. AppendsPart b d (verdict_line c.states.result (Closed n)))
+          c.deepest-depth.ensures c.in_err-write_verdict.ensures.wrote))));
       none = search rules;
       cause = search rules;
     }
@@ -41,9 +40,8 @@ returns g c =
     let b = (g.K.Sink.history c.write_front.new.sink).written in
     let d = (g.K.Sink.history c.write_verdict.new.sink).written in
     let all : Appends a d (merged_text m) = Appends-trans _ _ _ (merged_front m) _ c.in_ok-write_front.ensures.wrote
-    (subst (λ n. Appends b d (verdict_line n (Closed m.keys.deepest))) c.states.ensures
-    (subst (λ n. Appends b d (verdict_line c.states.result (Closed n))) c.deepest-depth.ensures
-    c.in_ok-write_verdict.ensures.wrote)) in
+    (rw (← c.states.ensures) (subst (λ n. Appends b d (verdict_line c.states.result (Closed n)))
+    c.deepest-depth.ensures c.in_ok-write_verdict.ensures.wrote)) in
     record {
       whole = flushed_whole _ _ _ _ (merged_text m) all c.flush.ensures.kept;
       part = flushed_part _ _ _ _ (merged_text m) all c.flush.ensures.kept c.flush.ensures.some;

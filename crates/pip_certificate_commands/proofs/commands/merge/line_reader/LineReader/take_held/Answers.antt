@@ -1,5 +1,3 @@
-use Rattle.std.proofs.Common.{subst}
-use Rattle.pip_io.specs.Newlines.{IsFirstNewline}
 use Rattle.pip_certificate_commands.proofs.LineReads.{takes_all, takes_front}
 use Rattle.pip_certificate_commands.proofs.commands.merge.line_reader.LineReader.take_held.Goals as goal
 
@@ -7,10 +5,10 @@ pub returns-in_ok-extend_from_slice-in-Some : goal.returns-in_ok-extend_from_sli
 returns-in_ok-extend_from_slice-in-Some c =
     takes_front c.self.inside.start c.self.inside.end c.self.inside.chunk c.args.self.now c.args.line.now.items
     c.extend_from_slice.new.self.items c.self.invariant.0 c.self.view_is c.in-Some.at
-    (subst (IsFirstNewline _) c.in-Some.is c.find_newline.ensures) c.in_ok-extend_from_slice-in-Some.ensures.items
+    (rw c.in-Some.is at c.find_newline.ensures) c.in_ok-extend_from_slice-in-Some.ensures.items
 
 pub returns-in_ok-extend_from_slice-in-None : goal.returns-in_ok-extend_from_slice-in-None
 returns-in_ok-extend_from_slice-in-None c =
     takes_all c.self.inside.start c.self.inside.end c.self.inside.chunk c.args.self.now c.args.line.now.items
     c.extend_from_slice-in-None.new.self.items c.self.invariant.0 c.self.view_is
-    (subst (IsFirstNewline _) c.in-None.is c.find_newline.ensures) c.in_ok-extend_from_slice-in-None.ensures.items
+    (rw c.in-None.is at c.find_newline.ensures) c.in_ok-extend_from_slice-in-None.ensures.items
