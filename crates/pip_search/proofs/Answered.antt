@@ -1,5 +1,5 @@
 -- Keys that are asked and found.
-use Rattle.std.proofs.Common.{ℕ, List, subst}
+use Rattle.std.proofs.Common.{ℕ, List}
 use Rattle.pip_search.specs.Certificates.{HasStop, IsInSome}
 use Rattle.pip_search.specs.Merging.{ListsMerge}
 use Rattle.pip_search.proofs.Certified.{has_later}
@@ -18,6 +18,5 @@ lists_merge start ps keys asked listed first answered = record {
           place = i.place;
           part = i.part;
           at = i.at;
-          has = subst (λ k. HasStop i.part.keys k n) h.same
-              (has_later i.part.keys h.stop.key h.stop.depth n h.soon i.has);
+          has = rw (← h.same) (has_later i.part.keys h.stop.key h.stop.depth n h.soon i.has);
         }

@@ -1,6 +1,6 @@
 -- A label that comes is avoided by no loop.
 use Rattle.std.proofs.Common.{◌≡◌, ℕ, zero, suc, ◌+◌, ◌-◌, ◌*◌, ◌/◌, ◌%◌, ◌<◌, ◌≤◌, inl, inr, List, [], ◌∷◌, ◌++◌}
-use Rattle.std.proofs.Common.{length, length-append, Some, slice_get, ap, sym, subst, ◌∙◌, arith}
+use Rattle.std.proofs.Common.{length, length-append, Some, slice_get, ap, sym, arith}
 use Rattle.std.proofs.Math.Nat.{mul-le-mul_left, mul-le-mul_right}
 use Rattle.std.proofs.lemmas.Bool.{cases_lt}
 use Rattle.std.specs.List.{AllByRecursion}
@@ -17,32 +17,29 @@ use Rattle.pip_search.proofs.Places.{get-below, get-more}
 length_over : (n : ℕ) (cs : List ℕ) → length (times_over n cs) ≡ n * length cs
 length_over zero cs = omega arith
 length_over (suc n) cs =
-    let h = length_over n cs in
-    let long = length-append cs (times_over n cs) in
-    omega arith
+    omega (arith, length_over n cs, length-append cs (times_over n cs))
 
 -- what stands after others
 get_after : (xs ys : List ℕ) (i : ℕ) → slice_get (xs ++ ys) (length xs + i) ≡ slice_get ys i
 get_after [] ys i = ap (slice_get ys) (omega arith)
 get_after (x ∷ xs) ys i =
     let is : suc (length xs) + i ≡ suc (length xs + i) = omega arith in
-    ap (slice_get (x ∷ (xs ++ ys))) is ∙ get_after xs ys i
+    rw (is, get_after xs ys i)
 
 get_over : (n a : ℕ) (cs : List ℕ) (q x : ℕ) → a < n → slice_get cs q ≡ Some x
     → slice_get (times_over n cs) (a * length cs + q) ≡ Some x
 get_over zero a cs q x low at = absurd (omega arith)
 get_over (suc n) zero cs q x low at =
     let is : zero * length cs + q ≡ q = omega arith in
-    ap (slice_get (cs ++ times_over n cs)) is ∙ get-more cs (times_over n cs) q x at
+    rw (is, get-more cs (times_over n cs) q x at)
 get_over (suc n) (suc a) cs q x low at =
     let is : suc a * length cs + q ≡ length cs + (a * length cs + q) = omega arith in
-    ap (slice_get (cs ++ times_over n cs)) is ∙ get_after cs (times_over n cs) (a * length cs + q)
-    ∙ get_over n a cs q x (omega arith) at
+    rw (is, get_after cs (times_over n cs) (a * length cs + q), get_over n a cs q x (omega arith) at)
 
 -- a place in the middle of three lists
 get_middle : (xs ys zs : List ℕ) (i x : ℕ) → i < length ys → slice_get (xs ++ (ys ++ zs)) (length xs + i) ≡ Some x
     → slice_get ys i ≡ Some x
-get_middle xs ys zs i x low e = front ys zs i low (sym (get_after xs (ys ++ zs) i) ∙ e)
+get_middle xs ys zs i x low e = front ys zs i low (rw (← get_after xs (ys ++ zs) i) e)
   where
     front : (ys zs : List ℕ) (i : ℕ) → i < length ys → slice_get (ys ++ zs) i ≡ Some x → slice_get ys i ≡ Some x
     front [] zs i low e = absurd (omega arith)
@@ -55,16 +52,11 @@ module _ (n : ℕ) (cs later some first : List ℕ) (whole : times_over n cs ≡
   stands : (a q x i : ℕ) → slice_get cs q ≡ Some x → a < n → a * length cs + q ≡ length later + i → i < length some
       → slice_get some i ≡ Some x
   stands a q x i at low is inside = get_middle later some first i x inside
-      (ap (slice_get (later ++ (some ++ first))) (sym is) ∙ ap (λ xs. slice_get xs (a * length cs + q)) (sym whole)
-      ∙ get_over n a cs q x low at)
+      (rw (← is, ← whole, get_over n a cs q x low at))
 
   long : length later + length some ≤ n * length cs
   long =
-      let e = ap length whole in
-      let f = length_over n cs in
-      let g = length-append later (some ++ first) in
-      let h = length-append some first in
-      omega arith
+      omega (arith, ap length whole, length_over n cs, length-append later (some ++ first), length-append some first)
 
   among : (q x : ℕ) → slice_get cs q ≡ Some x → (i : ℕ) × (slice_get some i ≡ Some x)
   among q x at =
@@ -78,12 +70,12 @@ module _ (n : ℕ) (cs later some first : List ℕ) (whole : times_over n cs ≡
         | inl less ↦
             let i = length cs + q - r in
             let small : i < length some = omega arith in
-            let under : (a + 1) * length cs < n * length cs = omega (arith, count, bound, is, less) in
+            let under : (a + 1) * length cs < n * length cs = omega arith in
             (i, stands (a + 1) q x i at (smaller (a + 1) under) (omega arith) small)
         | inr most ↦
             let i = q - r in
             let small : i < length some = omega arith in
-            let under : a * length cs < n * length cs = omega (arith, count, bound, is, low) in
+            let under : a * length cs < n * length cs = omega arith in
             (i, stands a q x i at (smaller a under) (omega arith) small)
       ]
     where
@@ -98,7 +90,7 @@ fair_over : (classes : List ℕ) (n : ℕ) (cs : List ℕ) → HasEach classes c
 fair_over classes n cs each c later some first one whole count =
     let h = each c one in
     let (i, at) = among n cs later some first whole count h.place h.choice h.at in
-    record { place = i; choice = h.choice; at = at; class_is = h.class_is }
+    search
 
 -- ---- choices that are made over and over
 
@@ -124,5 +116,5 @@ not_avoided m classes s label way loop counts comes avoided =
     let h = comes way (times_over n loop) (λ _. length loop) avoided.can (can_over m n loop avoided.on) (λ _. some)
     (fair_over classes n loop avoided.each) enough in
     let hidden = hidden_both m (after_choices m s way) label h.later h.first
-    (subst (IsHidden m (after_choices m s way) label) h.whole (avoided.never n)) in
+    (rw (← h.whole) (avoided.never n)) in
     not_both m (after_choices m s way) label h.first h.shown hidden.1

@@ -1,6 +1,6 @@
 -- What the parts of a certificate say together.
 use Rattle.std.proofs.Common.{◌≡◌, ◌≢◌, ℕ, zero, suc, ◌+◌, ◌<◌, ◌≤◌, ◌⊎◌, inl, inr, List, [], ◌∷◌, ◌++◌, length}
-use Rattle.std.proofs.Common.{Some, slice_get, refl, ap, sym, subst, ◌∙◌, arith}
+use Rattle.std.proofs.Common.{Some, slice_get, refl, arith}
 use Rattle.pip_search.specs.Certificates.{AreClosedParts, AreMerged, AreReachedParts, CertificatesCountAll}
 use Rattle.pip_search.specs.Certificates.{CertificatesSayAll, HasStop, IsInSome, IsMet, IsShownInSome, Portion, SayAll}
 use Rattle.pip_search.specs.Certificates.{CountAll, IsDeepest, StandsInSome, Stop, all_keys, all_stops}
@@ -19,7 +19,7 @@ has_later xs key n k more h = record {
   stop = h.stop;
   at = h.at;
   same = h.same;
-  soon = let a = h.soon in omega arith;
+  soon = omega arith;
 }
 
 module _ (m : Model) (start : List ℕ) (ps : List Portion) (closed : AreClosedParts m ps) (merged : AreMerged start ps)
@@ -37,8 +37,7 @@ module _ (m : Model) (start : List ℕ) (ps : List Portion) (closed : AreClosedP
           place = i.place;
           part = i.part;
           at = i.at;
-          has = subst (λ k. HasStop i.part.keys k n) h.same
-              (has_later i.part.keys h.stop.key h.stop.depth n h.soon i.has);
+          has = rw (← h.same) (has_later i.part.keys h.stop.key h.stop.depth n h.soon i.has);
         }
 
     next_in : (key : List ℕ) (n c : ℕ) (h : IsInSome ps key n) (w : IsMet m h.part h.has.stop c)
@@ -48,10 +47,10 @@ module _ (m : Model) (start : List ℕ) (ps : List Portion) (closed : AreClosedP
         place = h.place;
         part = h.part;
         at = h.at;
-        has = has_later h.part.keys w.next (h.has.stop.depth + 1) (n + 1) (let a = h.has.soon in omega arith) own;
+        has = has_later h.part.keys w.next (h.has.stop.depth + 1) (n + 1) (omega arith) own;
       }
       | inr other ↦ asked_in w.next (n + 1) h.place h.part h.at
-          (has_later h.part.asked w.next (h.has.stop.depth + 1) (n + 1) (let a = h.has.soon in omega arith) other)
+          (has_later h.part.asked w.next (h.has.stop.depth + 1) (n + 1) (omega arith) other)
     ]
 
     module _ (s : m.State) (stands : m.stands start s) where
@@ -60,13 +59,13 @@ module _ (m : Model) (start : List ℕ) (ps : List Portion) (closed : AreClosedP
       step c cs can h =
           let w = met_in h.key (length cs) c can h.has in
           let here : m.stands h.has.has.stop.key (after_choices m s cs) =
-          subst (λ k. m.stands k (after_choices m s cs)) (sym h.has.has.same) h.stands in
+          rw h.has.has.same h.stands in
           let l = w.leads (after_choices m s cs) here in
           let more : length cs + 1 ≡ length (c ∷ cs) = omega arith in
           record {
             key = w.next;
             stands = l.0;
-            has = subst (λ n. IsInSome ps w.next n) more (next_in h.key (length cs) c h.has w);
+            has = rw (← more) (next_in h.key (length cs) c h.has w);
           }
 
       pub all_in : (cs : List ℕ) → AreChoices m cs → StandsInSome m ps (after_choices m s cs) (length cs)
@@ -79,15 +78,15 @@ module _ (m : Model) (start : List ℕ) (ps : List Portion) (closed : AreClosedP
           let h = all_in cs can.1 in
           let w = met_in h.key (length cs) c can.0 h.has in
           let here : m.stands h.has.has.stop.key (after_choices m s cs) =
-          subst (λ k. m.stands k (after_choices m s cs)) (sym h.has.has.same) h.stands in
+          rw h.has.has.same h.stands in
           let l = w.leads (after_choices m s cs) here in
-          let same : w.shown ≡ label = l.1 ∙ sym is in
-          let t = w.told (λ e. some (sym same ∙ e)) in
+          let same : w.shown ≡ label = cc (l.1) in
+          let t = w.told (λ e. some (cc)) in
           record {
             place = h.has.place;
             part = h.has.part;
             at = h.has.at;
-            has = record { place = t.place; at = t.at ∙ ap (λ x. Some x) same };
+            has = record { place = t.place; at = rw (t.at, same) };
           }
 
       pub says_all : SayAll m s ps
@@ -120,7 +119,7 @@ unfolding all_stops
 in_all [] j k p x at has = absurd (cc)
 in_all (q ∷ ps) zero k p x at has =
     let same : q ≡ p = cc in
-    (k, get-more q.keys (all_stops ps) k x (ap (λ (r : Portion). slice_get r.keys k) same ∙ has))
+    (k, get-more q.keys (all_stops ps) k x (rw (same, has)))
 in_all (q ∷ ps) (suc j) k p x at has =
     let (i, there) = in_all ps j k p x at has in get_after q.keys (all_stops ps) i x there
 
@@ -165,12 +164,11 @@ module _ (m : Model) (one : HasOneKey m) (start : List ℕ) (ps : List Portion) 
               let (k, there) = in_all ps h.has.place own.place h.has.part own.stop h.has.at own.at in
               let first : slice_get (all_keys ps) i ≡ Some x.key = map_at (λ y. y.key) (all_stops ps) i x at in
               let other : slice_get (all_keys ps) k ≡ Some x.key =
-              map_at (λ y. y.key) (all_stops ps) k own.stop there ∙ ap (λ y. Some y) (own.same ∙ same) in
+              rw (map_at (λ y. y.key) (all_stops ps) k own.stop there, own.same, same) in
               let at_one : i ≡ k = distinct i k x.key first other in
               let alike : x ≡ own.stop = at-same (all_stops ps) k x own.stop
-              (subst (λ n. slice_get (all_stops ps) n ≡ Some x) at_one at) there in
-              let as_deep : x.depth ≡ own.stop.depth = ap (λ y. y.depth) alike in
-              let soon = own.soon in
+              (rw (← at_one) at) there in
+              let as_deep : x.depth ≡ own.stop.depth = rw alike in
               omega arith;
         }
 
@@ -183,7 +181,7 @@ module _ (m : Model) (one : HasOneKey m) (start : List ℕ) (ps : List Portion) 
           place = k;
           key = own.stop.key;
           at = map_at (λ y. y.key) (all_stops ps) k own.stop there;
-          stands = subst (λ y. m.stands y (after_choices m s cs)) (sym own.same) h.stands;
+          stands = rw own.same h.stands;
         }
 
     pub counts_all : CountAll m s ps depth
@@ -192,7 +190,7 @@ module _ (m : Model) (one : HasOneKey m) (start : List ℕ) (ps : List Portion) 
         distinct = distinct;
         reached = λ j key e.
             let (x, (at, same)) = at_map (λ (y : Stop). y.key) (all_stops ps) j key e in
-            (x.depth, (deep.within j x at, subst (λ k. IsAway m s k x.depth) same (away j x at)));
+            (x.depth, (deep.within j x at, rw same at (away j x at)));
         all = λ cs can covers. among cs can;
       };
       ends = λ most limit low few. (
@@ -203,7 +201,7 @@ module _ (m : Model) (one : HasOneKey m) (start : List ℕ) (ps : List Portion) 
             place = deep.place;
             key = deep.stop.key;
             at = map_at (λ y. y.key) (all_stops ps) deep.place deep.stop deep.at;
-            away = subst (λ n. IsAway m s deep.stop.key n) deep.depth_is (away deep.place deep.stop deep.at);
+            away = rw (← deep.depth_is) (away deep.place deep.stop deep.at);
           },
         ),
       );

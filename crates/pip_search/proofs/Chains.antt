@@ -22,8 +22,8 @@ pub last_le : (hashes : List ℕ) (n r k : ℕ) → last_below hashes n r k ≤ 
 unfolding last_below
 last_le hashes n r zero = omega arith
 last_le hashes n r (suc k) = let h = last_le hashes n r k in elim (cases_eq (get_or hashes k 0 % n) r) [
-  | inl e ↦ let l = last_same hashes n r k e in omega arith
-  | inr e ↦ let l = last_other hashes n r k e in omega arith
+  | inl e ↦ omega (arith, last_same hashes n r k e)
+  | inr e ↦ omega (arith, last_other hashes n r k e)
 ]
 
 -- its hash leaves the rest
@@ -32,7 +32,7 @@ unfolding last_below
 last_rest hashes n r zero p h = absurd (omega arith)
 last_rest hashes n r (suc k) p h = elim (cases_eq (get_or hashes k 0 % n) r) [
   | inl e ↦ let l = last_same hashes n r k e in let same : p ≡ k = omega arith in rw same e
-  | inr e ↦ last_rest hashes n r k p (sym (last_other hashes n r k e) ∙ h)
+  | inr e ↦ last_rest hashes n r k p (rw (← last_other hashes n r k e) h)
 ]
 
 -- and none between it and k leaves the rest
@@ -40,9 +40,9 @@ pub last_gap : (hashes : List ℕ) (n r k j : ℕ) → last_below hashes n r k �
 unfolding last_below
 last_gap hashes n r zero j a b = absurd (omega arith)
 last_gap hashes n r (suc k) j a b = elim (cases_eq (get_or hashes k 0 % n) r) [
-  | inl e ↦ let l = last_same hashes n r k e in absurd (omega arith)
+  | inl e ↦ absurd (omega (arith, last_same hashes n r k e))
   | inr e ↦ elim (cases_lt j k) [
-    | inl less ↦ last_gap hashes n r k j (let l = last_other hashes n r k e in omega arith) less
+    | inl less ↦ last_gap hashes n r k j (omega (arith, last_other hashes n r k e)) less
     | inr most ↦ let same : j ≡ k = omega arith in rw same e
   ]
 ]
@@ -67,12 +67,20 @@ module _ (hashes chains heads : List ℕ) (k : ℕ) (below : k < length hashes) 
   heads_then : (r : ℕ) → r < length heads → get_or (set heads rest (k + 1)) r 0 ≡ last_below hashes (length heads) r
       (k + 1)
   heads_then r h = elim (cases_eq r rest) [
-    | inl e ↦ rw e (get_or-set_same heads rest (k + 1) 0 rest_lt ∙ add-one k
-        ∙ sym (last_same hashes (length heads) rest k refl) ∙ ap (last_below hashes (length heads) rest)
-        (sym (add-one k)))
-    | inr e ↦ get_or-set_other heads rest r (k + 1) 0 e ∙ l.heads_are r h
-        ∙ sym (last_other hashes (length heads) r k (λ f. e (sym f)))
-        ∙ ap (last_below hashes (length heads) r) (sym (add-one k))
+    | inl e ↦ rw e (cc (
+      get_or-set_same heads rest (k + 1) 0 rest_lt,
+      add-one k,
+      last_same hashes (length heads) rest k
+          refl,
+      add-one k,
+    ))
+    | inr e ↦ rw (
+      get_or-set_other heads rest r (k + 1) 0 e,
+      l.heads_are r h,
+      ← last_other hashes (length heads) r k
+          (λ f. e (sym f)),
+      ← add-one k,
+    )
   ]
 
   chains_then : (j : ℕ) → j < k + 1 → get_or (set chains k (get_or heads rest 0)) j 0 ≡ last_below hashes
@@ -84,10 +92,8 @@ module _ (hashes chains heads : List ℕ) (k : ℕ) (below : k < length hashes) 
 
   pub link_step : AreLinked hashes (set chains k (get_or heads rest 0)) (set heads rest (k + 1)) (k + 1)
   link_step = let e : length (set heads rest (k + 1)) ≡ length heads = length-set heads rest (k + 1) in record {
-    heads_are = λ r h. subst (λ n. get_or (set heads rest (k + 1)) r 0 ≡ last_below hashes n r (k + 1)) (sym e)
-        (heads_then r (omega (arith, e, h)));
-    chains_are = λ j h. subst (λ n. get_or (set chains k (get_or heads rest 0)) j 0 ≡ last_below hashes n
-        (get_or hashes j 0 % n) j) (sym e) (chains_then j h);
+    heads_are = λ r h. rw e (heads_then r (omega (arith, e, h)));
+    chains_are = λ j h. rw e (chains_then j h);
   }
 
 -- ---- no hash is linked
@@ -96,7 +102,7 @@ pub none_linked : (hashes chains heads : List ℕ) (n : ℕ) → heads ≡ repli
     → AreLinked hashes chains heads 0
 unfolding last_below
 none_linked hashes chains heads n is count = record {
-  heads_are = λ r h. ap (λ xs. get_or xs r 0) is ∙ get_or-replicate n r 0 0 (omega arith);
+  heads_are = λ r h. rw is (get_or-replicate n r 0 0 (omega arith));
   chains_are = λ j h. absurd (omega arith);
 }
 
@@ -106,11 +112,15 @@ pub linked_more : (hashes chains heads : List ℕ) (h c : ℕ) → length chains
     → AreLinked hashes chains heads (length hashes) → AreLinked (hashes ++ h ∷ []) (chains ++ c ∷ []) heads
     (length hashes)
 linked_more hashes chains heads h c count l = record {
-  heads_are = λ r a. l.heads_are r a ∙ sym (last_more hashes (h ∷ []) (length heads) r (length hashes) (omega arith));
-  chains_are = λ j a. get_or-append chains (c ∷ []) 0 j (omega arith) ∙ l.chains_are j a
-      ∙ sym (last_more hashes (h ∷ []) (length heads) (get_or hashes j 0 % length heads) j (omega arith))
-      ∙ ap (λ x. last_below (hashes ++ h ∷ []) (length heads) (x % length heads) j)
-      (sym (get_or-append hashes (h ∷ []) 0 j a));
+  heads_are = λ r a. cc (l.heads_are r a, last_more hashes (h ∷ []) (length heads) r (length hashes) (omega arith));
+  chains_are = λ j a. rw (
+    get_or-append chains (c ∷ []) 0 j (omega arith),
+    l.chains_are j a,
+    ← last_more hashes
+        (h ∷ []) (length heads) (get_or hashes j 0 % length heads) j (omega arith),
+    ← get_or-append hashes (h ∷ []) 0 j
+        a,
+  );
 }
 
 pub linked_at : (hashes chains heads : List ℕ) (h c : ℕ) {hs cs hd : List ℕ} {k : ℕ} → hs ≡ hashes ++ h ∷ []
@@ -125,7 +135,7 @@ none_filed x n some few no_hash no_chain zeros count = record {
   some = omega arith;
   load = omega (arith, ap length no_hash);
   spare = omega arith;
-  count = ap length no_chain ∙ sym (ap length no_hash);
-  linked = subst (λ k. AreLinked x.hashes.items x.chains.items x.heads.items k) (sym (ap length no_hash))
+  count = cc;
+  linked = subst (λ k. AreLinked x.hashes.items x.chains.items x.heads.items k) (cc)
       (none_linked x.hashes.items x.chains.items x.heads.items n zeros count);
 }

@@ -1,6 +1,6 @@
 -- Keys by the numbers of their blocks.
-use Rattle.std.proofs.Common.{◌≡◌, ◌≢◌, ℕ, zero, suc, ◌+◌, ◌-◌, ◌^◌, ◌<◌, ◌≤◌, List, [], ◌∷◌, ◌++◌, refl, ap, sym, ◌∙◌}
-use Rattle.std.proofs.Common.{subst, arith, length, Some, slice_get, All, take, get_or, map, append-nil, append_assoc}
+use Rattle.std.proofs.Common.{◌≡◌, ◌≢◌, ℕ, zero, suc, ◌+◌, ◌-◌, ◌^◌, ◌<◌, ◌≤◌, List, [], ◌∷◌, ◌++◌, refl, ap, ◌∙◌}
+use Rattle.std.proofs.Common.{arith, length, Some, slice_get, All, take, get_or, map, append-nil, append_assoc}
 use Rattle.std.proofs.Common.{add-one, length-append}
 use Rattle.std.proofs.lemmas.List.{append_cancel_left, length-take-le, map-append, take-append-le, take_at}
 use Rattle.std.proofs.lemmas.List.Elements.{All-cons, All-head, All-nil, All-push, All-tail}
@@ -22,7 +22,7 @@ joined_none blocks = refl
 pub joined_next : (blocks : List (List ℕ)) (n : ℕ) (ns b : List ℕ) → slice_get blocks n ≡ Some b
     → joined_blocks blocks (n ∷ ns) ≡ b ++ joined_blocks blocks ns
 unfolding joined_blocks
-joined_next blocks n ns b at = ap (λ x. x ++ joined_blocks blocks ns) (get_or_from_slice_get blocks n b [] at)
+joined_next blocks n ns b at = rw (get_or_from_slice_get blocks n b [] at)
 
 -- one block more at the end
 joined_push : (blocks : List (List ℕ)) (ns : List ℕ) (n : ℕ) (b : List ℕ) → slice_get blocks n ≡ Some b
@@ -31,7 +31,7 @@ unfolding joined_blocks
 joined_push blocks [] n b at = joined_next blocks n [] b at ∙ append-nil b
 joined_push blocks (m ∷ ns) n b at =
     let front = get_or blocks m [] in
-    ap (λ x. front ++ x) (joined_push blocks ns n b at) ∙ sym (append_assoc front (joined_blocks blocks ns) b)
+    rw (joined_push blocks ns n b at, ← append_assoc front (joined_blocks blocks ns) b)
 
 pub all_next : (count n : ℕ) (ns : List ℕ) → All (λ k. k < count) (n ∷ ns) → All (λ k. k < count) ns
 all_next count n ns h = All-tail (λ k. k < count) n ns h
@@ -45,7 +45,7 @@ key_of_count blocks n ns = refl
 key_of_most : (blocks : List (List ℕ)) (most : ℕ) (ns : List ℕ)
     → key_of_words blocks (suc most ∷ ns) ≡ take most (joined_blocks blocks ns)
 key_of_most blocks most ns = let less : suc most - 1 ≡ most = omega arith in
-    key_of_count blocks (suc most) ns ∙ ap (λ k. take k (joined_blocks blocks ns)) less
+    rw (key_of_count blocks (suc most) ns, less)
 
 -- ---- an entry
 
@@ -81,20 +81,20 @@ module _ (x : KeyStore) (i : ℕ) (entry : List ℕ) (at : slice_get (listed x.e
   key_at = rw (slice_get-map (key_of_entry (blocks_of x.blocks)) (listed x.entries) i, at)
 
   pub is_entry : AreCollapsed x → IsKeyEntry (blocks_of x.blocks) entry
-  is_entry h = subst (IsKeyEntry (blocks_of x.blocks)) (get_or_from_slice_get (listed x.entries) i entry [] at)
+  is_entry h = rw (← get_or_from_slice_get (listed x.entries) i entry [] at)
       (h.entries i [] (get-below (listed x.entries) i entry at))
 
   -- the key of an entry that has it whole
   pub whole_at : (bytes : List ℕ) → entry ≡ 0 ∷ bytes → slice_get (keys_in x) i ≡ Some bytes
   whole_at bytes is =
-      key_at ∙ ap Some (ap (key_of_entry (blocks_of x.blocks)) is ∙ whole_key (blocks_of x.blocks) bytes)
+      rw (key_at, is, whole_key (blocks_of x.blocks) bytes)
 
   -- the key of another one
   pub blocks_at : AreCollapsed x → ((bytes : List ℕ) → entry ≢ 0 ∷ bytes) → IsByBlocks (blocks_of x.blocks) entry
       × (slice_get (keys_in x) i ≡ Some (key_of_words (blocks_of x.blocks) (unpacked_key entry)))
   blocks_at h other =
       let (by, is) = block_key (blocks_of x.blocks) entry (is_entry h) other in
-      (by, key_at ∙ ap Some is)
+      (by, rw (key_at, is))
 
 -- ---- a key that is compared
 
@@ -104,8 +104,7 @@ Begins blocks bytes ns = take (length bytes) (joined_blocks blocks ns) ≡ bytes
 
 pub key_begins : (blocks : List (List ℕ)) (key words : List ℕ) (n : ℕ) (ns : List ℕ) → words ≡ n ∷ ns
     → n - 1 ≡ length key → key_of_words blocks words ≡ take (length key) (joined_blocks blocks ns)
-key_begins blocks key words n ns is long = ap (key_of_words blocks) is ∙ key_of_count blocks n ns
-    ∙ ap (λ k. take k (joined_blocks blocks ns)) long
+key_begins blocks key words n ns is long = rw (is, key_of_count blocks n ns, long)
 
 -- how long the key of an entry is
 pub key_length : (blocks : List (List ℕ)) (entry : List ℕ) (n : ℕ) (ns : List ℕ) → IsByBlocks blocks entry
@@ -113,51 +112,46 @@ pub key_length : (blocks : List (List ℕ)) (entry : List ℕ) (n : ℕ) (ns : L
 key_length blocks entry n ns h is =
     let same : suc h.most ≡ n = let e = h.back in cc in
     let rest : h.numbers ≡ ns = let e = h.back in cc in
-    let long : n - 1 ≤ length (joined_blocks blocks ns) = rw (← rest) (let low = h.long in omega arith) in
-    ap length (ap (key_of_words blocks) is ∙ key_of_count blocks n ns)
-    ∙ length-take-le (n - 1) (joined_blocks blocks ns) long
+    let long : n - 1 ≤ length (joined_blocks blocks ns) = rw (← rest) (omega arith) in
+    rw (is, key_of_count blocks n ns, length-take-le (n - 1) (joined_blocks blocks ns) long)
 
 module _ (blocks : List (List ℕ)) (n : ℕ) (words ns b : List ℕ) (is : words ≡ n ∷ ns)
     (at : slice_get blocks n ≡ Some b) where
   next_block : joined_blocks blocks words ≡ b ++ joined_blocks blocks ns
-  next_block = ap (joined_blocks blocks) is ∙ joined_next blocks n ns b at
+  next_block = rw (is, joined_next blocks n ns b at)
 
   -- fewer bytes than a block has
   pub begins_last : (rest : List ℕ) → length rest ≤ length b
       → take (length rest) (joined_blocks blocks words) ≡ take (length rest) b
-  begins_last rest low = ap (take (length rest)) next_block
-      ∙ take-append-le (length rest) b (joined_blocks blocks ns) low
+  begins_last rest low = rw (next_block, take-append-le (length rest) b (joined_blocks blocks ns) low)
 
   module _ (rest front after : List ℕ) (whole : rest ≡ front ++ after) where
     begins_front : length front ≡ length b
         → take (length rest) (joined_blocks blocks words) ≡ b ++ take (length after) (joined_blocks blocks ns)
     begins_front long =
         let all = length-append front after in
-        let count : length rest ≡ length b + length after = ap length whole ∙ all ∙ ap (λ k. k + length after) long in
-        ap (λ k. take k (joined_blocks blocks words)) count ∙ ap (take (length b + length after)) next_block
-        ∙ take-append-add b (joined_blocks blocks ns) (length after)
+        let count : length rest ≡ length b + length after = rw (whole, all, long) in
+        rw (count, next_block, take-append-add b (joined_blocks blocks ns) (length after))
 
     -- a block that is the next one
     pub begins_more : front ≡ b → Begins blocks after ns → Begins blocks rest words
-    begins_more same h = begins_front (ap length same) ∙ ap (λ x. b ++ x) h ∙ ap (λ x. x ++ after) (sym same)
-        ∙ sym whole
+    begins_more same h = rw (begins_front (ap length same), h, ← same, ← whole)
 
     pub begins_back : front ≡ b → Begins blocks rest words → Begins blocks after ns
     begins_back same h = append_cancel_left b (take (length after) (joined_blocks blocks ns)) after
-        (sym (begins_front (ap length same)) ∙ h ∙ whole ∙ ap (λ x. x ++ after) same)
+        (rw (← begins_front (ap length same), h, whole, same))
 
     -- no other one is
     pub begins_same : length front ≡ length b → Begins blocks rest words → front ≡ b
     begins_same long h =
         let more = take (length after) (joined_blocks blocks ns) in
-        let e : b ++ more ≡ front ++ after = sym (begins_front long) ∙ h ∙ whole in
-        sym (take_at front after (length b) long) ∙ ap (take (length b)) (sym e) ∙ take_at b more (length b) refl
+        let e : b ++ more ≡ front ++ after = rw (← begins_front long, h, whole) in
+        rw (← take_at front after (length b) long, ← e, take_at b more (length b) refl)
 
 -- no blocks
 pub begins_none : (blocks : List (List ℕ)) (rest ns : List ℕ) → ns ≡ []
     → take (length rest) (joined_blocks blocks ns) ≡ []
-begins_none blocks rest ns none = ap (take (length rest)) (ap (joined_blocks blocks) none ∙ joined_none blocks)
-    ∙ take-nil (length rest)
+begins_none blocks rest ns none = rw (none, joined_none blocks, take-nil (length rest))
 
 -- ---- an entry that is made
 
@@ -172,8 +166,7 @@ pub begun_none : (blocks : List (List ℕ)) (count : ℕ) (entry : List ℕ) →
     → entry ≡ packed_word (count + 1) → IsBegun blocks count [] entry
 begun_none blocks count entry low is = record {
   numbers = [];
-  back = λ more. ap (λ e. unpacked_key (e ++ more)) is ∙ word_back (count + 1) more low
-      ∙ ap (λ k. k ∷ unpacked_key more) (add-one count);
+  back = λ more. rw (is, word_back (count + 1) more low, add-one count);
   low = All-nil (λ n. n < length blocks);
   joined = joined_none blocks;
 }
@@ -186,12 +179,12 @@ joined_extended blocks rest (n ∷ ns) low =
     let here : get_or (blocks ++ rest) n [] ≡ get_or blocks n [] = get_or-append blocks rest [] n
     (All-head (λ k. k < length blocks) n ns low) in
     let there = joined_extended blocks rest ns (all_next (length blocks) n ns low) in
-    ap (λ b. b ++ joined_blocks (blocks ++ rest) ns) here ∙ ap (λ x. get_or blocks n [] ++ x) there
+    rw (here, there)
 
 low_extended : (blocks rest : List (List ℕ)) (ns : List ℕ) → All (λ n. n < length blocks) ns
     → All (λ n. n < length (blocks ++ rest)) ns
 low_extended blocks rest ns low k d here =
-    let a = low k d here in let b = length-append blocks rest in omega arith
+    omega (arith, low k d here, length-append blocks rest)
 
 begun_extended : (blocks more : List (List ℕ)) (count : ℕ) (bytes entry : List ℕ) → IsExtended blocks more
     → IsBegun blocks count bytes entry → IsBegun more count bytes entry
@@ -208,12 +201,16 @@ begun_next blocks count bytes block entry next h a = record {
   numbers = h.numbers ++ a.number ∷ [];
   back = λ more.
       let w = packed_word a.number in
-      ap (λ e. unpacked_key (e ++ more)) a.packed ∙ ap unpacked_key (append_assoc entry w more)
-      ∙ h.back (w ++ more)
-      ∙ ap (λ ws. suc count ∷ (h.numbers ++ ws)) (word_back a.number more a.fits)
-      ∙ ap (λ ws. suc count ∷ ws) (sym (append_assoc h.numbers (a.number ∷ []) (unpacked_key more)));
+      rw (
+        a.packed,
+        append_assoc entry w more,
+        h.back (w ++ more),
+        word_back a.number more a.fits,
+        ← append_assoc
+            h.numbers (a.number ∷ []) (unpacked_key more),
+      );
   low = All-push (λ n. n < length blocks) h.numbers a.number h.low (get-below blocks a.number block a.at);
-  joined = joined_push blocks h.numbers a.number block a.at ∙ ap (λ x. x ++ block) h.joined;
+  joined = rw (joined_push blocks h.numbers a.number block a.at, h.joined);
 }
 
 -- one block more, of blocks that may be more
@@ -228,19 +225,16 @@ pub begun_done : (blocks : List (List ℕ)) (key rest bytes entry : List ℕ) �
 begun_done blocks key rest bytes entry h is =
     let joined : joined_blocks blocks h.numbers ≡ key ++ rest = h.joined ∙ is in
     let back : unpacked_key entry ≡ suc (length key) ∷ h.numbers =
-    ap unpacked_key (sym (append-nil entry)) ∙ h.back []
-    ∙ ap (λ ws. suc (length key) ∷ (h.numbers ++ ws)) (words_none 0)
-    ∙ ap (λ ws. suc (length key) ∷ ws) (append-nil h.numbers) in
+    rw (← append-nil entry, h.back [], words_none 0, append-nil h.numbers) in
     record {
       by = record {
         most = length key;
         numbers = h.numbers;
         back = back;
         low = h.low;
-        long = rw joined (let long = length-append key rest in omega arith);
+        long = rw joined (omega (arith, length-append key rest));
       };
-      is = ap (key_of_words blocks) back ∙ key_of_most blocks (length key) h.numbers
-          ∙ ap (take (length key)) joined ∙ take-append_seam key rest;
+      is = rw (back, key_of_most blocks (length key) h.numbers, joined, take-append_seam key rest);
     }
 
 -- ---- entries, and more blocks
@@ -248,7 +242,7 @@ begun_done blocks key rest bytes entry h is =
 pub extended_again : (a b c : List (List ℕ)) → IsExtended a b → IsExtended b c → IsExtended a c
 extended_again a b c e f = record {
   rest = e.rest ++ f.rest;
-  whole = f.whole ∙ ap (λ x. x ++ f.rest) e.whole ∙ append_assoc a e.rest f.rest;
+  whole = rw (f.whole, e.whole, append_assoc a e.rest f.rest);
 }
 
 by_extended : (blocks rest : List (List ℕ)) (entry : List ℕ) → IsByBlocks blocks entry
@@ -257,7 +251,7 @@ by_extended : (blocks rest : List (List ℕ)) (entry : List ℕ) → IsByBlocks 
 by_extended blocks rest entry h =
     let same = joined_extended blocks rest h.numbers h.low in
     let all : (x : List (List ℕ)) → key_of_words x (unpacked_key entry) ≡ take h.most (joined_blocks x h.numbers) =
-    λ x. ap (key_of_words x) h.back ∙ key_of_most x h.most h.numbers in (
+    λ x. rw (h.back, key_of_most x h.most h.numbers) in (
       record {
         most = h.most;
         numbers = h.numbers;
@@ -265,7 +259,7 @@ by_extended blocks rest entry h =
         low = low_extended blocks rest h.numbers h.low;
         long = rw same h.long;
       },
-      all (blocks ++ rest) ∙ ap (take h.most) same ∙ sym (all blocks),
+      rw (all (blocks ++ rest), same, ← all blocks),
     )
 
 entry_extended : (blocks rest : List (List ℕ)) (entry : List ℕ) → IsKeyEntry blocks entry
@@ -290,8 +284,6 @@ pub entries_more : (blocks more : List (List ℕ)) (es new : List (List ℕ)) (k
     → All (IsKeyEntry more) new × (map (key_of_entry more) new ≡ map (key_of_entry blocks) es ++ key ∷ [])
 entries_more blocks more es new key entry e h made grew =
     let (all, same) = rw (← e.whole) at (entries_extended blocks e.rest es h) in (
-      subst (All (IsKeyEntry more)) (sym grew) (All-push (IsKeyEntry more) es entry all made.made),
-      ap (map (key_of_entry more)) grew ∙ map-append (key_of_entry more) es (entry ∷ [])
-          ∙ ap (λ ks. ks ++ key_of_entry more entry ∷ []) same
-          ∙ ap (λ k. map (key_of_entry blocks) es ++ k ∷ []) made.is,
+      rw grew (All-push (IsKeyEntry more) es entry all made.made),
+      rw (grew, map-append (key_of_entry more) es (entry ∷ []), same, made.is),
     )

@@ -1,12 +1,11 @@
 -- The end of a search: what it says.
-use Rattle.std.proofs.Common.{◌≡◌, ℕ, ◌-◌, ◌<◌, ◌≤◌, List, Some, get_or, length, slice_get, refl, sym, subst, arith}
+use Rattle.std.proofs.Common.{◌≡◌, ℕ, ◌-◌, ◌<◌, ◌≤◌, List, Some, get_or, length, slice_get, refl, subst, arith}
 use Rattle.std.proofs.lemmas.Option.{slice_get_read}
 use Rattle.std.specs.Prelude.{vec_len}
 use Rattle.pip_search.specs.Again.{HasClosed}
 use Rattle.pip_search.specs.Ending.{Ends, IsBeyond}
 use Rattle.pip_search.specs.Keys.{HaveKeys, Keyed, keyed_visit, keys, labels, steps_of, visits_of}
 use Rattle.pip_search.specs.Naming.{AreDistinct}
-use Rattle.pip_search.specs.Orders.{IsRanked}
 use Rattle.pip_search.specs.Reached.{Explains}
 use Rattle.pip_search.specs.Searching.{IsSearching}
 use Rattle.pip_search.specs.Summary.{HasOneKey, IsTold}
@@ -27,7 +26,7 @@ use Rattle.pip_search.proofs.Steps.{all_bytes, all_steps, visit_at, visit_count}
 pub visit_read : (s : Search) (i : ℕ) (v : Visit) → HaveKeys s.visits.items s.store s.keys → i < vec_len s.visits
     → v ≡ get_or s.visits.items i v → (key : List ℕ) × (slice_get (visits_of s) i ≡ Some (keyed_visit key v))
 visit_read s i v keyed low read = visit_at s keyed i v (slice_get_read s.visits.items (length s.visits.items) i v refl
-    (omega (arith, s.visits.ok.0)) read)
+    (omega arith) read)
 
 -- what is promised of a search that has ended, whose system had this base before, and has that one now
 abbrev pub IsDone : (m : Model) → List ℕ → Search → ℕ → ℕ → Extent → {B : Type 0} → B → B → Type 0
@@ -56,12 +55,11 @@ module _ {B : Type 0} {old now : B} {m : Model} {start : List ℕ} {s : Search} 
       let steps = all_steps s h.keyed in
       let count = visit_count s h.keyed in
       let traced = are_traced m start vs s.found.items i c h.exploring in
-      let distinct = distinct_keys vs h.kept (subst AreDistinct (sym (all_bytes s h.keyed)) h.keyed.named.distinct) in
-      let few : length vs ≤ limit = omega (arith, s.visits.ok.0, room) in
+      let distinct = distinct_keys vs h.kept (rw (all_bytes s h.keyed) h.keyed.named.distinct) in
+      let few : length vs ≤ limit = omega arith in
       record {
-        told = λ one x stands. subst (λ ws. IsTold m x most limit (witnesses_of verdict ws s.found.items)
-            (length s.visits.items) verdict) steps
-            (subst (λ n. IsTold m x most limit (witnesses_of verdict (steps_of vs) s.found.items) n verdict) count
+        told = λ one x stands. rw steps at (subst (λ n. IsTold m x most limit
+            (witnesses_of verdict (steps_of vs) s.found.items) n verdict) count
             (says m x vs s.found.items traced one distinct most limit few verdict i c h.ranked (explains x stands) ends
             h.told.distinct (λ k f e. (h.exploring.labels k f e).some)));
         keyed = steps;
@@ -70,7 +68,7 @@ module _ {B : Type 0} {old now : B} {m : Model} {start : List ℕ} {s : Search} 
         room = room;
         distinct = distinct;
         labels = h.told.distinct;
-        traced = subst (λ ws. AreTraced ws s.found.items) steps traced;
+        traced = rw (← steps) traced;
         closed = closed;
         base = base;
       }
@@ -82,7 +80,7 @@ module _ {B : Type 0} {old now : B} {m : Model} {start : List ℕ} {s : Search} 
       let vs = visits_of s in
       done (Within v.depth) (within_tells m start vs s.found.items i c h.exploring h.ranked v at v.depth refl)
       (within_ends m start vs s.found.items i c most limit h.exploring v at
-      (subst (λ k. IsRanked (steps_of vs) s.found.items i k) none h.ranked) shallow deep) (λ depth e. absurd (cc))
+      (rw none at h.ranked) shallow deep) (λ depth e. absurd (cc))
 
   -- a choice of visit i leads to a state for which there is no room
   pub stopped_done : (v : Keyed) → slice_get (visits_of s) i ≡ Some v → v.depth < most
@@ -100,14 +98,14 @@ module _ {B : Type 0} {old now : B} {m : Model} {start : List ℕ} {s : Search} 
       let vs = visits_of s in
       let some = h.exploring.some in
       let count = visit_count s h.keyed in
-      let place : j ≡ length vs - 1 = omega (arith, s.visits.ok.0, last, count) in
-      let all : length s.visits.items ≤ i = omega (arith, s.visits.ok.0, none) in
-      let whole : length vs ≤ i = omega (arith, all, count) in
-      let (key, at) = visit_read s j v h.keyed (omega (arith, s.visits.ok.0, last, some, count)) read in
+      let place : j ≡ length vs - 1 = omega arith in
+      let all : length s.visits.items ≤ i = omega arith in
+      let whole : length vs ≤ i = omega arith in
+      let (key, at) = visit_read s j v h.keyed (omega arith) read in
       done (Closed v.depth) (closed_tells m start vs s.found.items i c h.exploring h.ranked whole v.depth)
       (closed_ends m start vs s.found.items i c most limit h.exploring (keyed_visit key v)
-      (subst (λ k. slice_get vs k ≡ Some (keyed_visit key v)) place at) shallow whole) (λ depth e. record {
+      (simp (← place) at) shallow whole) (λ depth e. record {
         end = i;
         all = all;
-        searching = subst (λ k. IsSearching m start s i k) first h;
+        searching = rw (← first) h;
       })

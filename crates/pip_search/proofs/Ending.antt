@@ -1,5 +1,5 @@
 -- Why a search ended.
-use Rattle.std.proofs.Common.{◌≡◌, ℕ, ◌+◌, ◌-◌, ◌<◌, ◌≤◌, inl, inr, List, length, Some, slice_get, refl, ap, arith}
+use Rattle.std.proofs.Common.{◌≡◌, ℕ, ◌+◌, ◌-◌, ◌<◌, ◌≤◌, inl, inr, List, length, Some, slice_get, refl, arith}
 use Rattle.pip_search.specs.Systems.{Model}
 use Rattle.pip_search.specs.Ending.{Ends, IsBeyond}
 use Rattle.pip_search.specs.Exploring.{IsExploring}
@@ -40,7 +40,7 @@ module _ (m : Model) (start : List ℕ) (vs : List Keyed) (fs : List Found) (i c
       → most ≤ v.depth → Ends m vs most limit (Within v.depth)
   within_ends v at ranked shallow deep =
       let all : (j : ℕ) (u : Keyed) → slice_get vs j ≡ Some u → u.depth ≤ most = λ j u e. elim (h.visits j u e) [
-        | inl first ↦ let d = first.root.depth in omega arith
+        | inl first ↦ omega arith
         | inr child ↦
             let low = child.earlier in
             elim (ranked.visits j (step_of u) (omega arith) (map_at step_of vs j u e)) [
@@ -48,14 +48,14 @@ module _ (m : Model) (start : List ℕ) (vs : List Keyed) (fs : List Found) (i c
                   let d = child.depth in
                   let p : child.from.depth < most = shallow u.parent child.from early child.at in
                   omega arith
-              | inr same ↦ let z = same.1 in absurd (omega arith)
+              | inr same ↦ absurd (omega arith)
             ]
       ] in
       let own = all i v at in (
         omega arith,
         (
           record { place = i; visit = v; at = at; depth_is = refl },
-          λ j u e. let o = all j u e in omega arith,
+          λ j u e. omega (arith, all j u e),
         ),
       )
 
@@ -64,7 +64,7 @@ module _ (m : Model) (start : List ℕ) (vs : List Keyed) (fs : List Found) (i c
   stopped_ends v at low beyond = (
     low,
     (
-      record { place = i; beyond = beyond; depth_is = ap (λ y. y.depth) (at-same vs i beyond.from v beyond.at at) },
+      record { place = i; beyond = beyond; depth_is = rw (at-same vs i beyond.from v beyond.at at) },
       λ j u e. h.near v j u at e,
     ),
   )

@@ -1,6 +1,6 @@
 -- From an order of visits that falls to labels that come.
 use Rattle.std.proofs.Common.{◌≡◌, ◌≢◌, ℕ, zero, suc, ◌+◌, ◌*◌, ◌<◌, ◌≤◌, ◌⊎◌, inl, inr, List, [], ◌∷◌, ◌++◌}
-use Rattle.std.proofs.Common.{length, Some, slice_get, slice_index, refl, ap, sym, subst, ◌∙◌, arith}
+use Rattle.std.proofs.Common.{length, Some, slice_get, slice_index, refl, sym, subst, ◌∙◌, arith}
 use Rattle.std.proofs.Common.{append_assoc}
 use Rattle.std.proofs.lemmas.Bool.{cases_eq, cases_lt}
 use Rattle.std.specs.List.{AllByRecursion}
@@ -21,7 +21,7 @@ use Rattle.pip_search.proofs.Telling.{closed_tells}
 pub after_both : (m : Model) (s : m.State) (cs ds : List ℕ)
     → after_choices m s (cs ++ ds) ≡ after_choices m (after_choices m s ds) cs
 after_both m s [] ds = refl
-after_both m s (c ∷ cs) ds = ap (λ x. m.act x c) (after_both m s cs ds)
+after_both m s (c ∷ cs) ds = rw (after_both m s cs ds)
 
 pub all_of_both : (P : ℕ → Type 0) (cs ds : List ℕ) → AllByRecursion P (cs ++ ds)
     → AllByRecursion P cs × AllByRecursion P ds
@@ -33,23 +33,23 @@ pub hidden_both : (m : Model) (s : m.State) (label cs ds : List ℕ) → IsHidde
 hidden_both m s label [] ds h = (tt, h)
 hidden_both m s label (c ∷ cs) ds h =
     let r = hidden_both m s label cs ds h.1 in
-    ((subst (λ x. m.label x c ≢ label) (after_both m s cs ds) h.0, r.0), r.1)
+    ((rw (← after_both m s cs ds) h.0, r.0), r.1)
 
 fair_later : (classes : List ℕ) (windows : ℕ → ℕ) (cs ds : List ℕ) → AreFair classes windows (cs ++ ds)
     → AreFair classes windows cs
 fair_later classes windows cs ds fair c later some first one whole count =
-    fair c later some (first ++ ds) one (ap (λ x. x ++ ds) whole ∙ append_assoc later (some ++ first) ds
-    ∙ ap (λ x. later ++ x) (append_assoc some first ds)) count
+    fair c later some (first ++ ds) one (rw (whole, append_assoc later (some ++ first) ds, append_assoc some first ds))
+    count
 
 fair_first : (classes : List ℕ) (windows : ℕ → ℕ) (cs ds : List ℕ) (c : ℕ) → AreFair classes windows (cs ++ ds)
     → 0 < slice_index classes c → length ds ≡ windows (slice_index classes c)
     → HasOneOf classes ds (slice_index classes c)
 fair_first classes windows cs ds c fair one count =
-    fair c cs ds [] one (ap (λ x. cs ++ x) (sym (append_nil ds))) count
+    fair c cs ds [] one (cc (append_nil ds)) count
   where
     append_nil : (xs : List ℕ) → xs ++ [] ≡ xs
     append_nil [] = refl
-    append_nil (x ∷ xs) = ap (λ ys. x ∷ ys) (append_nil xs)
+    append_nil (x ∷ xs) = rw (append_nil xs)
 
 -- choices, the first n of which are apart
 record IsSplit (cs : List ℕ) (n : ℕ) : Type 0 where
@@ -68,7 +68,7 @@ split_at (c ∷ cs) n le = elim (cases_lt (length cs) n) [
       record {
         later = c ∷ h.later;
         first = h.first;
-        whole = ap (λ x. c ∷ x) h.whole;
+        whole = rw h.whole;
         count = h.count;
         rest = omega arith;
       }
@@ -97,7 +97,7 @@ shown_or_hidden m s label (c ∷ cs) can = elim (shown_or_hidden m s label cs ca
       inl (record {
         later = c ∷ h.later;
         first = h.first;
-        whole = ap (λ x. c ∷ x) h.whole;
+        whole = rw h.whole;
         shown = h.shown;
         soon = omega arith;
       })
@@ -140,9 +140,9 @@ weight_falls windows k (suc n) f g h le low high less = elim (cases_lt k h) [
       let is : k ≡ h = omega arith in
       let rest : weight windows (suc k) n f ≤ weight windows (suc k) n g = weight_le windows (suc k) n f g
       (λ d low high. le d (omega arith) (omega arith)) in
-      let one : f k + 1 ≤ g k = subst (λ i. f i + 1 ≤ g i) (sym is) (omega arith) in
+      let one : f k + 1 ≤ g k = rw is (omega arith) in
       let here : windows k * (f k + 1) ≤ windows k * g k = mul-le-mul_left (windows k) one in
-      let same : windows k ≡ windows h = ap windows is in
+      let same : windows k ≡ windows h = rw is in
       omega arith
 ]
 
@@ -162,8 +162,8 @@ unfolding weight
 weight_counts windows k [] f le = omega arith
 weight_counts windows k (n ∷ ns) f le =
     let rest : weight windows (suc k) (length ns) f ≤ in_windows windows (suc k) ns = weight_counts windows (suc k) ns f
-    (λ d low. subst (λ i. f i ≤ slice_index ns d) (next d) (le (suc d) (omega arith))) in
-    let first : f k ≤ n = subst (λ i. f i ≤ n) (same k) (le zero (omega arith)) in
+    (λ d low. rw (← next d) (le (suc d) (omega arith))) in
+    let first : f k ≤ n = rw (← same k) (le zero (omega arith)) in
     let here : windows k * f k ≤ windows k * n = mul-le-mul_left (windows k) first in
     omega arith
   where
@@ -206,7 +206,7 @@ module _ (m : Model) (vs : List Keyed) (label classes ranks helpers : List ℕ) 
   one_more cs c class other none h = go h.place h.choice h.at h.class_is
     where
       go : (p d : ℕ) → slice_get (c ∷ cs) p ≡ Some d → slice_index classes d ≡ class → ⊥
-      go zero d at is = let same : c ≡ d = cc in other (ap (slice_index classes) same ∙ is)
+      go zero d at is = let same : c ≡ d = cc in other (rw (same, is))
       go (suc p) d at is = none (record { place = p; choice = d; at = at; class_is = is })
 
   goes_on : (j p t c : ℕ) (cs : List ℕ) → helper j < columns → NoneRises ranks columns j p
@@ -216,13 +216,13 @@ module _ (m : Model) (vs : List Keyed) (label classes ranks helpers : List ℕ) 
     | inl low ↦ let e = next.below (helper j) inside in inl (omega arith)
     | inr kept ↦ elim next.down [
       | inl less ↦
-          let falls : rank t (helper j) < rank p (helper j) = subst (λ h. rank t h < rank p h) kept.class less in
+          let falls : rank t (helper j) < rank p (helper j) = rw (← kept.class) less in
           let e = below (helper j) inside in
           inl (omega arith)
       | inr level ↦ inr (record {
         class = level.same ∙ kept.class;
-        some = λ _. subst (λ h. 0 < h) kept.class level.some;
-        none = one_more cs c (helper j) (subst (λ h. slice_index classes c ≢ h) kept.class level.other) kept.none;
+        some = λ _. rw (← kept.class) level.some;
+        none = one_more cs c (helper j) (rw (← kept.class) level.other) kept.none;
       })
     ]
   ]
@@ -251,7 +251,7 @@ module _ (m : Model) (vs : List Keyed) (label classes ranks helpers : List ℕ) 
           visit = e.1.0.to;
           at = e.1.0.there;
           stands = (e.1.0.leads (after_choices m s cs) p.stands).0;
-          below = λ k low. let x = p.below k low in let y = e.1.1.below k low in omega arith;
+          below = λ k low. omega arith;
           down = goes_on j p.place e.0 c cs ready.inside p.below p.down e.1.1;
         }
       ]
@@ -287,11 +287,10 @@ module _ (m : Model) (vs : List Keyed) (label classes ranks helpers : List ℕ) 
         | inr long ↦
             let p = split_at cs (windows (helper j)) long in
             let (can_later, can_first) = all_of_both (λ c. c < m.choices) p.later p.first
-            (subst (AreChoices m) p.whole can) in
+            (rw (← p.whole) can) in
             let (hidden_later, hidden_first) = hidden_both m s label p.later p.first
-            (subst (IsHidden m s label) p.whole hidden) in
-            let fair_both : AreFair classes windows (p.later ++ p.first) = subst
-            (AreFair classes windows) p.whole fair in
+            (rw (← p.whole) hidden) in
+            let fair_both : AreFair classes windows (p.later ++ p.first) = rw (← p.whole) fair in
             let h = led j u s p.first at stands can_first hidden_first in
             let count = p.count in
             let less : rank h.place (helper j) < rank j (helper j) = falls j s p.first h (omega arith)
@@ -300,10 +299,11 @@ module _ (m : Model) (vs : List Keyed) (label classes ranks helpers : List ℕ) 
             (helper j) ≤ weight windows 0 columns (rank j) =
             weight_falls windows 0 columns (rank h.place) (rank j) (helper j) (λ d _ high. h.below d (omega arith))
             (omega arith) (omega arith) less in
-            let rest = p.rest in
-            let more = bounded n windows h.place h.visit (after_choices m s p.first) p.later (omega arith) some h.at
-            h.stands can_later (fair_later classes windows p.later p.first fair_both) hidden_later in
-            omega arith
+            omega (
+              arith,
+              bounded n windows h.place h.visit (after_choices m s p.first) p.later (omega arith) some h.at
+                  h.stands can_later (fair_later classes windows p.later p.first fair_both) hidden_later,
+            )
       ]
 
   -- and the label comes
@@ -314,26 +314,27 @@ module _ (m : Model) (vs : List Keyed) (label classes ranks helpers : List ℕ) 
   comes_soon windows n j u s cs low some at stands can fair long =
       let p = split_at cs n long in
       let (can_later, can_first) = all_of_both (λ c. c < m.choices) p.later p.first
-      (subst (AreChoices m) p.whole can) in
-      let fair_both : AreFair classes windows (p.later ++ p.first) = subst (AreFair classes windows) p.whole fair in
+      (rw (← p.whole) can) in
+      let fair_both : AreFair classes windows (p.later ++ p.first) = rw (← p.whole) fair in
       elim (shown_or_hidden m s label p.first can_first) [
         | inl h ↦ record {
           later = p.later ++ h.later;
           first = h.first;
-          whole = p.whole ∙ ap (λ x. p.later ++ x) h.whole ∙ sym (append_assoc p.later h.later h.first);
+          whole = cc (p.whole, h.whole, append_assoc p.later h.later h.first);
           shown = h.shown;
-          soon = let soon = h.soon in let count = p.count in omega arith;
+          soon = omega arith;
         }
         | inr hidden ↦
-            let count = p.count in
-            let few = bounded n windows j u s p.first low some at stands can_first
-            (fair_rest p.later p.first fair_both) hidden in
-            absurd (omega arith)
+            absurd (omega (
+              arith,
+              bounded n windows j u s p.first low some at stands can_first
+                  (fair_rest p.later p.first fair_both) hidden,
+            ))
       ]
     where
       fair_rest : (cs ds : List ℕ) → AreFair classes windows (cs ++ ds) → AreFair classes windows ds
       fair_rest cs ds fair c later some first one whole count = fair c (cs ++ later) some first one
-          (ap (λ x. cs ++ x) whole ∙ sym (append_assoc cs later (some ++ first))) count
+          (rw (whole, ← append_assoc cs later (some ++ first))) count
 
 -- ---- what is said of a search
 

@@ -6,7 +6,7 @@ use Rattle.std.proofs.lemmas.List.{length-reverse, reverse-append}
 use Rattle.std.proofs.lemmas.List.Elements.{All-get_or, All-tail}
 use Rattle.pip_search.specs.Parts.{IsReachedFrom, stop_at}
 use Rattle.pip_search.specs.Reached.{AreChoices}
-use Rattle.pip_search.specs.Systems.{IsKey, LeadsAlong, LeadsOn, Model, after_choices, after_way}
+use Rattle.pip_search.specs.Systems.{IsKey, LeadsAlong, LeadsOn, Model, after_way}
 
 -- where one choice more leads
 pub after_more : (m : Model) (s : m.State) (way : List ℕ) (i : ℕ) → i < length way
@@ -15,7 +15,7 @@ after_more m s way i lt =
     let c = get_or way i 0 in
     let more : take (i + 1) way ≡ take i way ++ c ∷ [] =
     ap (λ n. take n way) (let e : i + 1 ≡ suc i = omega arith in e) ∙ take-suc way i 0 lt in
-    ap (after_way m s) more ∙ ap (after_choices m s) (reverse-append (take i way) (c ∷ []))
+    rw (more, reverse-append (take i way) (c ∷ []))
 
 pub along_more : (m : Model) (key way here next shown : List ℕ) (i : ℕ) → i < length way
     → LeadsAlong m key (take i way) here → LeadsOn m here (get_or way i 0) next shown
@@ -35,7 +35,7 @@ can_end m (d ∷ cs) c (first, all) can = (first, can_end m cs c all can)
 
 can_reverse : (m : Model) (way : List ℕ) → All (λ c. c < m.choices) way → AreChoices m (reverse way)
 can_reverse m [] all = tt
-can_reverse m (c ∷ way) all = subst (AreChoices m) (sym (reverse-append (c ∷ []) way))
+can_reverse m (c ∷ way) all = rw (reverse-append (c ∷ []) way)
     (can_end m (reverse way) c (can_reverse m way (All-tail (λ d. d < m.choices) c way all))
     (All-get_or (λ d. d < m.choices) (c ∷ way) 0 c (omega arith) all))
 

@@ -36,22 +36,23 @@ has_label fs label (j, e) = let (f, (at, same)) = at_named (λ (f : Found). f.la
 -- bytes of a key are those of their own words
 pub kept_bytes : (key bytes : List ℕ) → bytes ≡ packed_key key → unpacked_key bytes ≡ key
     → packed_key (unpacked_key bytes) ≡ bytes
-kept_bytes key bytes packed words = ap packed_key words ∙ sym packed
+kept_bytes key bytes packed words = rw (words, ← packed)
 
 pub kept_more : (vs ws : List Keyed) (bytes : List ℕ) (parent choice depth run : ℕ) → AreKept vs
     → packed_key (unpacked_key bytes) ≡ bytes → Grew vs ws bytes parent choice depth run → AreKept ws
-kept_more vs ws bytes parent choice depth run h is (inl keeps) = subst AreKept (sym keeps.same) h
-kept_more vs ws bytes parent choice depth run h is (inr adds) = subst AreKept (sym adds.whole)
+kept_more vs ws bytes parent choice depth run h is (inl keeps) = rw keeps.same h
+kept_more vs ws bytes parent choice depth run h is (inr adds) = rw adds.whole
     (λ j v e. elim (get-back vs adds.visit j v e) [
       | inl old ↦ h j v old
-      | inr new ↦ subst (λ y. packed_key (key_of y) ≡ y.key) (sym new.1)
+      | inr new ↦ subst
+          (λ y. packed_key (key_of y) ≡ y.key) (sym new.1)
           (subst (λ k. packed_key (unpacked_key k) ≡ k) (sym adds.key_is) is)
     ])
 
 pub kept_one : (v : Keyed) → packed_key (key_of v) ≡ v.key → AreKept (v ∷ [])
 kept_one v is j u e = elim (get-back [] v j u e) [
   | inl old ↦ absurd (cc)
-  | inr new ↦ subst (λ y. packed_key (key_of y) ≡ y.key) (sym new.1) is
+  | inr new ↦ rw new.1 is
 ]
 
 -- visits with distinct bytes have distinct keys
@@ -59,10 +60,10 @@ pub distinct_keys : (vs : List Keyed) → AreKept vs → AreDistinct (key_bytes 
 distinct_keys vs kept distinct i j key e f =
     let (u, (at, is)) = at_named key_of vs i key e in
     let (v, (bt, js)) = at_named key_of vs j key f in
-    let first : slice_get (key_bytes vs) i ≡ Some (packed_key key) = named_at (λ (w : Keyed). w.key) vs i u at
-    ∙ ap (λ x. Some x) (sym (kept i u at) ∙ ap packed_key is) in
-    let other : slice_get (key_bytes vs) j ≡ Some (packed_key key) = named_at (λ (w : Keyed). w.key) vs j v bt
-    ∙ ap (λ x. Some x) (sym (kept j v bt) ∙ ap packed_key js) in
+    let first : slice_get (key_bytes vs) i ≡ Some (packed_key key) = rw
+    (named_at (λ (w : Keyed). w.key) vs i u at, ← kept i u at, is) in
+    let other : slice_get (key_bytes vs) j ≡ Some (packed_key key) = rw
+    (named_at (λ (w : Keyed). w.key) vs j v bt, ← kept j v bt, js) in
     distinct i j (packed_key key) first other
 
 -- a key whose bytes are absent is absent
@@ -70,8 +71,7 @@ pub absent_key : (vs : List Keyed) (bytes key : List ℕ) → AreKept vs → byt
     → IsAbsent (key_bytes vs) bytes → IsAbsent (keys vs) key
 absent_key vs bytes key kept is absent j e =
     let (u, (at, same)) = at_named key_of vs j key e in
-    absent j (named_at (λ (w : Keyed). w.key) vs j u at
-    ∙ ap (λ x. Some x) (sym (kept j u at) ∙ ap packed_key same ∙ sym is))
+    absent j (rw (named_at (λ (w : Keyed). w.key) vs j u at, ← kept j u at, same, ← is))
 
 -- the words of a visit are those of its key
 pub kept_words : (vs : List Keyed) (i : ℕ) (v : Keyed) {words : List ℕ} → AreKept vs → slice_get vs i ≡ Some v
@@ -80,5 +80,5 @@ kept_words vs i v kept at is =
     let same = ap packed_key is ∙ kept i v at in
     record {
       has = record { place = i; at = record { visit = v; at = at; same = sym same } };
-      back = ap unpacked_key same ∙ sym is;
+      back = rw (same, ← is);
     }

@@ -37,12 +37,15 @@ module _ (m : Model) (start : List ℕ) (s : Search) (h : HasClosed m start s) w
       let w = h.searching.exploring.before i c (omega arith) low in
       let same : w.from ≡ u = at-same vs i w.from u w.at at in
       let (x, stands) = key_at key i u at in
-      let there = (w.leads x (subst (λ v. m.stands (key_of v) x) (sym same) stands)).0 in
+      let there = (w.leads x (rw same stands)).0 in
       let is : key_of w.to ≡ next = one (key_of w.to) next (m.act x c) there (leads x stands).0 in (
         w.place,
-        ap (λ ks. slice_get ks w.place) (sym (all_bytes s h.searching.keyed))
-            ∙ named_at (λ (v : Keyed). v.key) vs w.place w.to w.there
-            ∙ ap Some (sym (h.searching.kept w.place w.to w.there) ∙ ap packed_key is),
+        cc (
+          all_bytes s h.searching.keyed,
+          named_at (λ (v : Keyed). v.key) vs w.place w.to w.there,
+          h.searching.kept
+              w.place w.to w.there,
+        ),
       )
 
   -- and that is where it leads
@@ -50,12 +53,12 @@ module _ (m : Model) (start : List ℕ) (s : Search) (h : HasClosed m start s) w
       → unpacked_key bytes ≡ next → LeadsOn m key c next shown → IsEdge m vs key c j
   edge_to c j key bytes next shown at words leads =
       let (v, (there, own)) = at_named (λ (v : Keyed). v.key) vs j bytes
-      (ap (λ ks. slice_get ks j) (all_bytes s h.searching.keyed) ∙ at) in
+      (rw (all_bytes s h.searching.keyed, at)) in
       record {
         to = v;
         there = there;
         shown = shown;
-        leads = subst (λ k. LeadsOn m key c k shown) (sym (ap unpacked_key own ∙ words)) leads;
+        leads = rw (own, words) leads;
       }
 
 -- ---- one edge more, and one flag
@@ -65,22 +68,20 @@ module _ (m : Model) (vs : List Keyed) (width : ℕ) where
       → length targets ≡ i * width + c → c < width → slice_get vs i ≡ Some u → IsEdge m vs (key_of u) c to
       → AreEdges m vs width (targets ++ to ∷ [])
   edges_more targets i c to u all count low at edge e v within there = elim (cases_lt e (length targets)) [
-    | inl old ↦ subst (IsEdge m vs (key_of v) (e % width)) (sym (get_or-append targets (to ∷ []) 0 e old))
-        (all e v old there)
+    | inl old ↦ rw (get_or-append targets (to ∷ []) 0 e old) (all e v old there)
     | inr most ↦
         let long = length-append targets (to ∷ []) in
-        let is : e ≡ i * width + c = omega (arith, most, within, long, count) in
-        let row : e / width ≡ i = ap (λ x. x / width) is ∙ div-mul-add i width c low in
-        let column : e % width ≡ c = ap (λ x. x % width) is ∙ mod-mul-add i width c low in
-        let same : u ≡ v = at-same vs i u v at (ap (slice_get vs) (sym row) ∙ there) in
-        let last : slice_index (targets ++ to ∷ []) e ≡ to = ap (slice_index (targets ++ to ∷ [])) (is ∙ sym count)
-        ∙ get_or-append_seam targets to [] 0 in
-        subst (IsEdge m vs (key_of v) (e % width)) (sym last)
-        (subst (λ k. IsEdge m vs (key_of v) k to) (sym column) (subst (λ w. IsEdge m vs (key_of w) c to) same edge))
+        let is : e ≡ i * width + c = omega arith in
+        let row : e / width ≡ i = rw (is, div-mul-add i width c low) in
+        let column : e % width ≡ c = rw (is, mod-mul-add i width c low) in
+        let same : u ≡ v = at-same vs i u v at (rw (← row, there)) in
+        let last : slice_index (targets ++ to ∷ []) e ≡ to = rw (is, ← count, get_or-append_seam targets to [] 0) in
+        rw last (subst (λ k. IsEdge m vs (key_of v) k to) (sym column)
+        (subst (λ w. IsEdge m vs (key_of w) c to) same edge))
   ]
 
   pub no_edges : (targets : List ℕ) → targets ≡ [] → AreEdges m vs width targets
-  no_edges targets none e u low at = absurd (let z : length targets ≡ 0 = ap length none in omega arith)
+  no_edges targets none e u low at = absurd (let z : length targets ≡ 0 = rw none in omega arith)
 
 module _ (m : Model) (key label : List ℕ) where
   pub among_shown : (n : ℕ) (b : Bool) → IsShownAmong m key label n b → ShowsAt m key n label
@@ -89,10 +90,10 @@ module _ (m : Model) (key label : List ℕ) where
 
   pub among_other : (n : ℕ) (b : Bool) → IsShownAmong m key label n b → ShowsOther m key n label
       → IsShownAmong m key label (n + 1) b
-  among_other n true h now = (h.0, (let l = h.1.0 in omega arith, h.1.1))
+  among_other n true h now = (h.0, (omega arith, h.1.1))
   among_other n false h now = λ c low. elim (cases_lt c n) [
     | inl less ↦ h c less
-    | inr most ↦ let is : c ≡ n = omega arith in subst (λ k. ShowsOther m key k label) (sym is) now
+    | inr most ↦ let is : c ≡ n = omega arith in rw is now
   ]
 
 pub flags_more : (m : Model) (vs : List Keyed) (label : List ℕ) (width : ℕ) (flags : List Bool) (i : ℕ) (b : Bool)
@@ -101,6 +102,5 @@ pub flags_more : (m : Model) (vs : List Keyed) (label : List ℕ) (width : ℕ) 
     → AreFlags m vs label width (flags ++ b ∷ [])
 flags_more m vs label width flags i b all count own j u d at is = elim (get-back flags b j d is) [
   | inl old ↦ all j u d at old
-  | inr new ↦ subst (IsShownAmong m (key_of u) label width) (sym new.1)
-      (own u (ap (slice_get vs) (sym (new.0 ∙ count)) ∙ at))
+  | inr new ↦ rw new.1 (own u (ap (slice_get vs) (sym (new.0 ∙ count)) ∙ at))
 ]

@@ -1,8 +1,7 @@
 -- From what was checked of orders and of loops to what is said.
-use Rattle.std.proofs.Common.{◌≡◌, ◌≢◌, ℕ, zero, suc, ◌+◌, ◌*◌, ◌/◌, ◌%◌, ◌^◌, ◌<◌, inl, inr, List, [], ◌∷◌}
+use Rattle.std.proofs.Common.{◌≡◌, ℕ, zero, suc, ◌+◌, ◌*◌, ◌/◌, ◌%◌, ◌^◌, ◌<◌, inl, inr, List, [], ◌∷◌}
 use Rattle.std.proofs.Common.{◌++◌, length, Some, reverse, slice_get, slice_index, refl, ap, sym, subst, ◌∙◌, arith}
-use Rattle.std.proofs.Common.{take}
-use Rattle.std.proofs.lemmas.List.{length-reverse, reverse-append, take_more}
+use Rattle.std.proofs.lemmas.List.{length-reverse, reverse-append}
 use Rattle.std.proofs.lemmas.Bool.{cases_lt}
 use Rattle.std.proofs.lemmas.Nat.{div-mul-add, mod-mul-add, mul-add-lt}
 use Rattle.std.proofs.Math.ListN.{get_or-append}
@@ -10,7 +9,7 @@ use Rattle.std.proofs.Math.Seq.{get_or-append_seam}
 use Rattle.std.proofs.Common.{length-append, Bool, true, false}
 use Rattle.pip_search.specs.Again.{HasClosed, IsEdge, ShowsAt, ShowsOther}
 use Rattle.pip_search.specs.Comes.{AreCutEdges, AreFalling, GoesDown, HasEach, IsAvoided, IsCutEdge, IsHidden}
-use Rattle.pip_search.specs.Comes.{PassesRanks, HasRank}
+use Rattle.pip_search.specs.Comes.{PassesRanks}
 use Rattle.pip_search.specs.Comes.{IsWalk, times_over}
 use Rattle.pip_search.specs.Keys.{Keyed, key_of, step_of, steps_of, visits_of}
 use Rattle.pip_search.specs.Reached.{AreChoices, Tells}
@@ -35,23 +34,20 @@ module _ (m : Model) (vs : List Keyed) (label : List ℕ) (width : ℕ) where
       → length targets ≡ i * width + c → c < width → slice_get vs i ≡ Some u → IsCutEdge m vs (key_of u) c label to
       → AreCutEdges m vs label width (targets ++ to ∷ [])
   cut_more targets i c to u all count low at edge e v within there = elim (cases_lt e (length targets)) [
-    | inl old ↦ subst (IsCutEdge m vs (key_of v) (e % width) label) (sym (get_or-append targets (to ∷ []) 0 e old))
-        (all e v old there)
+    | inl old ↦ rw (get_or-append targets (to ∷ []) 0 e old) (all e v old there)
     | inr most ↦
         let long = length-append targets (to ∷ []) in
-        let is : e ≡ i * width + c = omega (arith, most, within, long, count) in
-        let row : e / width ≡ i = ap (λ x. x / width) is ∙ div-mul-add i width c low in
-        let column : e % width ≡ c = ap (λ x. x % width) is ∙ mod-mul-add i width c low in
-        let same : u ≡ v = at-same vs i u v at (ap (slice_get vs) (sym row) ∙ there) in
-        let last : slice_index (targets ++ to ∷ []) e ≡ to = ap (slice_index (targets ++ to ∷ [])) (is ∙ sym count)
-        ∙ get_or-append_seam targets to [] 0 in
-        subst (IsCutEdge m vs (key_of v) (e % width) label) (sym last)
-        (subst (λ k. IsCutEdge m vs (key_of v) k label to) (sym column)
+        let is : e ≡ i * width + c = omega arith in
+        let row : e / width ≡ i = rw (is, div-mul-add i width c low) in
+        let column : e % width ≡ c = rw (is, mod-mul-add i width c low) in
+        let same : u ≡ v = at-same vs i u v at (rw (← row, there)) in
+        let last : slice_index (targets ++ to ∷ []) e ≡ to = rw (is, ← count, get_or-append_seam targets to [] 0) in
+        rw last (subst (λ k. IsCutEdge m vs (key_of v) k label to) (sym column)
         (subst (λ w. IsCutEdge m vs (key_of w) c label to) same edge))
   ]
 
   pub none_cut : (targets : List ℕ) → targets ≡ [] → AreCutEdges m vs label width targets
-  none_cut targets none e u low at = absurd (let z : length targets ≡ 0 = ap length none in omega arith)
+  none_cut targets none e u low at = absurd (let z : length targets ≡ 0 = rw none in omega arith)
 
 -- ---- choices that pass
 
@@ -65,15 +61,14 @@ module _ (m : Model) (vs : List Keyed) (label targets : List ℕ) (cut : AreCutE
       let e = j * width + c in
       let inside : j < length vs = get-below vs j u at in
       let within : e < width * length vs = mul-add-lt j width c (length vs) inside low in
-      let less : e < length targets = omega (arith, within, count) in
+      let less : e < length targets = omega arith in
       let row : e / width ≡ j = div-mul-add j width c low in
       let column : e % width ≡ c = mod-mul-add j width c low in
       let own : IsCutEdge m vs (key_of u) c label (slice_index targets e) =
-      subst (λ k. IsCutEdge m vs (key_of u) k label (slice_index targets e)) column
-      (cut e u less (ap (slice_get vs) row ∙ at)) in
+      rw column at (cut e u less (ap (slice_get vs) row ∙ at)) in
       let pass = passed e less in
       record {
-        ready = subst (HasRank classes ranks helpers columns) row pass.ready;
+        ready = rw (← row) pass.ready;
         down = elim own [
           | inl shows ↦ inl shows.1
           | inr edge ↦ elim pass.down [
@@ -83,9 +78,8 @@ module _ (m : Model) (vs : List Keyed) (label targets : List ℕ) (cut : AreCutE
               slice_index targets e,
               (
                 edge.0,
-                subst (λ k. GoesDown classes ranks helpers columns k c (slice_index targets e)) row
-                    (subst (λ k. GoesDown classes ranks helpers columns (e / width) k (slice_index targets e)) column
-                    goes),
+                rw row at (subst (λ k. GoesDown classes ranks helpers columns (e / width) k (slice_index targets e))
+                    column goes),
               ),
             )
           ]
@@ -105,7 +99,7 @@ module _ (m : Model) (vs : List Keyed) (label targets : List ℕ) (cut : AreCutE
       → IsWalk targets m.choices j cs k → IsWalked s cs k
   walked j u s [] k at stands walk = record {
     visit = u;
-    at = subst (λ i. slice_get vs i ≡ Some u) (sym walk) at;
+    at = rw walk at;
     stands = stands;
     can = tt;
     hidden = tt;
@@ -117,8 +111,7 @@ module _ (m : Model) (vs : List Keyed) (label targets : List ℕ) (cut : AreCutE
       let row : e / width ≡ i = div-mul-add i width c low in
       let column : e % width ≡ c = mod-mul-add i width c low in
       let own : IsCutEdge m vs (key_of p.visit) c label k =
-      subst (IsCutEdge m vs (key_of p.visit) c label) is
-      (subst (λ d. IsCutEdge m vs (key_of p.visit) d label (slice_index targets e)) column
+      rw (← is) (subst (λ d. IsCutEdge m vs (key_of p.visit) d label (slice_index targets e)) column
       (cut e p.visit less (ap (slice_get vs) row ∙ p.at))) in
       elim own [
         | inl shows ↦ absurd (ne shows.0)
@@ -135,7 +128,7 @@ module _ (m : Model) (vs : List Keyed) (label targets : List ℕ) (cut : AreCutE
       → IsHidden m (after_choices m s ds) label cs → IsHidden m s label (cs ++ ds)
   hidden_append s [] ds h k = h
   hidden_append s (c ∷ cs) ds h k = (
-    subst (λ x. m.label x c ≢ label) (sym (after_both m s cs ds)) k.0,
+    rw (after_both m s cs ds) k.0,
     hidden_append s cs ds h k.1,
   )
 
@@ -148,8 +141,8 @@ module _ (m : Model) (vs : List Keyed) (label targets : List ℕ) (cut : AreCutE
       let (there, hidden) = over j u s cs at stands walk n in
       let w = walked j u (after_choices m s (times_over n cs)) cs j at there walk in
       let same : w.visit ≡ u = at-same vs j w.visit u w.at at in (
-        subst (λ x. m.stands (key_of u) x) (sym (after_both m s cs (times_over n cs)))
-            (subst (λ v. m.stands (key_of v) (after_choices m (after_choices m s (times_over n cs)) cs)) same w.stands),
+        rw (after_both m s cs (times_over n cs)) (subst
+            (λ v. m.stands (key_of v) (after_choices m (after_choices m s (times_over n cs)) cs)) same w.stands),
         hidden_append s cs (times_over n cs) hidden w.hidden,
       )
 
@@ -164,17 +157,17 @@ pub in_reverse : (xs : List ℕ) (p x : ℕ) → slice_get xs p ≡ Some x → (
 in_reverse [] p x e = absurd cc
 in_reverse (y ∷ xs) zero x e = let same : y ≡ x = cc in (
   length (reverse xs),
-  ap (λ ys. slice_get ys (length (reverse xs))) (reverse-append (y ∷ []) xs) ∙ get-new (reverse xs) y ∙ ap Some same,
+  rw (reverse-append (y ∷ []) xs, get-new (reverse xs) y, same),
 )
 in_reverse (y ∷ xs) (suc p) x e =
     let (q, at) = in_reverse xs p x e in
-    (q, ap (λ ys. slice_get ys q) (reverse-append (y ∷ []) xs) ∙ get-more (reverse xs) (y ∷ []) q x at)
+    (q, rw (reverse-append (y ∷ []) xs, get-more (reverse xs) (y ∷ []) q x at))
 
 each_reverse : (classes cs : List ℕ) → HasEach classes cs → HasEach classes (reverse cs)
 each_reverse classes cs each c some =
     let h = each c some in
     let (q, at) = in_reverse cs h.place h.choice h.at in
-    record { place = q; choice = h.choice; at = at; class_is = h.class_is }
+    search
 
 -- ---- what is said of a search
 
@@ -196,16 +189,16 @@ is_avoided m start z h label classes targets cut few j low cs walk some each x s
     (map_at step_of vs j u at)).0 in
     let same : r.choices ≡ way_to (steps_of vs) j = trail_same (steps_of vs) r.choices (way_to (steps_of vs) j) j
     r.trail trail in
-    let is : r.choices ≡ way_to z.visits.items j = same ∙ ap (λ ws. way_to ws j) (all_steps z h.searching.keyed) in
+    let is : r.choices ≡ way_to z.visits.items j = rw (same, all_steps z h.searching.keyed) in
     let (on, never) = goes_round m vs label targets cut few j u (after_choices m x r.choices)
     (reverse cs) at r.stands walk in
     let long = length-reverse cs in
     record {
-      can = subst (AreChoices m) is r.can;
+      can = rw (← is) r.can;
       on = on;
       some = omega arith;
       each = each_reverse classes cs each;
-      never = subst (λ way. (n : ℕ) → IsHidden m (after_choices m x way) label (times_over n (reverse cs))) is never;
+      never = rw (← is) never;
     }
 
 -- ---- what is put in place of a visit
@@ -215,6 +208,6 @@ pub cut_is : (m : Model) (vs : List Keyed) (key label : List ℕ) (c to t : ℕ)
     → (b ≡ false → t ≡ to) → IsCutEdge m vs key c label t
 cut_is m vs key label c to t true edge shows other end here = inl (end refl, shows refl)
 cut_is m vs key label c to t false edge shows other end here =
-    inr (subst (IsEdge m vs key c) (sym (here refl)) edge, other refl)
+    inr (rw (here refl) edge, other refl)
 
 -- ---- one choice of a walk more

@@ -1,6 +1,6 @@
 -- From marks that are spread against the edges of visits to what can come again.
 use Rattle.std.proofs.Common.{◌≡◌, ℕ, zero, suc, ◌+◌, ◌*◌, ◌/◌, ◌%◌, ◌<◌, ◌≤◌, Bool, true, false, List, []}
-use Rattle.std.proofs.Common.{◌∷◌, ◌++◌, length, Some, slice_get, slice_index, refl, ap, sym, subst, ◌∙◌, arith}
+use Rattle.std.proofs.Common.{◌∷◌, ◌++◌, length, Some, slice_get, slice_index, refl, ap, sym, ◌∙◌, arith}
 use Rattle.std.proofs.lemmas.Nat.{div-mul-add, mod-mul-add, mul-add-lt}
 use Rattle.std.specs.List.{AllByRecursion}
 use Rattle.pip_search.specs.Again.{AreEdges, AreFlags, CanComeAgain, CanStillCome, HasClosed, IsEdge, IsLost}
@@ -18,7 +18,7 @@ use Rattle.pip_search.proofs.Placing.{none_before, way_there, wherever}
 after_first : (m : Model) (s : m.State) (cs : List ℕ) (c : ℕ)
     → after_choices m s (cs ++ c ∷ []) ≡ after_choices m (m.act s c) cs
 after_first m s [] c = refl
-after_first m s (d ∷ cs) c = ap (λ x. m.act x d) (after_first m s cs c)
+after_first m s (d ∷ cs) c = rw (after_first m s cs c)
 
 with_first : (P : ℕ → Type 0) (cs : List ℕ) (c : ℕ) → AllByRecursion P cs → P c → AllByRecursion P (cs ++ c ∷ [])
 with_first P [] c h k = (k, tt)
@@ -37,11 +37,10 @@ module _ (m : Model) (vs : List Keyed) (label : List ℕ) (width : ℕ) (can : w
   edge_of j c u at low =
       let inside : j < length vs = get-below vs j u at in
       let within : j * width + c < width * length vs = mul-add-lt j width c (length vs) inside low in
-      let few : j * width + c < length targets = omega (arith, within, count) in
+      let few : j * width + c < length targets = omega arith in
       let row : (j * width + c) / width ≡ j = div-mul-add j width c low in
       let column : (j * width + c) % width ≡ c = mod-mul-add j width c low in
-      subst (λ k. IsEdge m vs (key_of u) k (slice_index targets (j * width + c))) column
-      (edges (j * width + c) u few (ap (slice_get vs) row ∙ at))
+      rw column at (edges (j * width + c) u few (ap (slice_get vs) row ∙ at))
 
   -- from the states of a marked visit the label can come
   comes : (cs : List ℕ) (j : ℕ) (u : Keyed) (s : m.State) → slice_get vs j ≡ Some u → m.stands (key_of u) s
@@ -49,7 +48,7 @@ module _ (m : Model) (vs : List Keyed) (label : List ℕ) (width : ℕ) (can : w
       → CanStillCome m width s label
   comes [] j u s at stands all marked =
       let (c, (low, shows)) = own j u true at marked in
-      (c ∷ [], (low, tt), ((omega (arith, low, can), tt), sym (shows s stands)))
+      (c ∷ [], (low, tt), ((omega arith, tt), sym (shows s stands)))
   comes (c ∷ cs) j u s at stands all marked =
       let e = edge_of j c u at all.0 in
       let (ds, low, shown) = comes cs (slice_index targets (j * width + c)) e.to (m.act s c) e.there
@@ -59,8 +58,8 @@ module _ (m : Model) (vs : List Keyed) (label : List ℕ) (width : ℕ) (can : w
       go : (ds : List ℕ) → IsShownOn m (m.act s c) label ds → c < width → IsShownOn m s label (ds ++ c ∷ [])
       go [] shown low = absurd shown
       go (d ∷ ds) shown low = (
-        (shown.0.0, with_first (λ k. k < m.choices) ds c shown.0.1 (omega (arith, low, can))),
-        shown.1 ∙ ap (λ x. m.label x d) (sym (after_first m s ds c)),
+        (shown.0.0, with_first (λ k. k < m.choices) ds c shown.0.1 (omega arith)),
+        rw (shown.1, ← after_first m s ds c),
       )
 
   pub marked_comes : (j : ℕ) (u : Keyed) (s : m.State) → slice_get vs j ≡ Some u → m.stands (key_of u) s
@@ -78,7 +77,7 @@ module _ (m : Model) (vs : List Keyed) (label : List ℕ) (width : ℕ) (can : w
     unmarked : slice_get marks place ≡ Some false
 
   contrary : {A : Type 0} (k : ℕ) → IsMarked marks k → slice_get marks k ≡ Some false → A
-  contrary k h e = absurd (different (sym h ∙ e))
+  contrary k h e = absurd (different (cc))
     where
       different : Some true ≡ Some false → ⊥
       different d = cc
@@ -86,7 +85,7 @@ module _ (m : Model) (vs : List Keyed) (label : List ℕ) (width : ℕ) (can : w
   has_mark : (k : ℕ) (v : Keyed) → slice_get vs k ≡ Some v → (IsMarked marks k → ⊥) → slice_get marks k ≡ Some false
   has_mark k v at none =
       let inside : k < length vs = get-below vs k v at in
-      let (b, is) = get-some marks k (omega (arith, inside, rows)) in
+      let (b, is) = get-some marks k (omega arith) in
       go b is
     where
       go : (b : Bool) → slice_get marks k ≡ Some b → slice_get marks k ≡ Some false
@@ -94,9 +93,9 @@ module _ (m : Model) (vs : List Keyed) (label : List ℕ) (width : ℕ) (can : w
       go false e = e
 
   reads : (xs : List ℕ) (i : ℕ) → i < length xs → slice_get xs i ≡ Some (slice_index xs i)
-  reads [] i low = absurd (omega (arith, low))
+  reads [] i low = absurd (omega arith)
   reads (x ∷ xs) zero low = refl
-  reads (x ∷ xs) (suc i) low = reads xs i (omega (arith, low))
+  reads (x ∷ xs) (suc i) low = reads xs i (omega arith)
 
   -- by the first choices it stays so
   stuck_on : (s : m.State) (c : ℕ) → IsStuck s → c < width → IsStuck (m.act s c)
@@ -105,7 +104,7 @@ module _ (m : Model) (vs : List Keyed) (label : List ℕ) (width : ℕ) (can : w
       let n = h.place * width + c in
       let inside : h.place < length vs = get-below vs h.place h.visit h.at in
       let within : n < width * length vs = mul-add-lt h.place width c (length vs) inside low in
-      let few : n < length targets = omega (arith, within, count) in
+      let few : n < length targets = omega arith in
       let row : n / width ≡ h.place = div-mul-add h.place width c low in
       record {
         place = slice_index targets n;
@@ -113,7 +112,7 @@ module _ (m : Model) (vs : List Keyed) (label : List ℕ) (width : ℕ) (can : w
         at = e.there;
         stands = (e.leads s h.stands).0;
         unmarked = has_mark (slice_index targets n) e.to e.there (λ marked. contrary h.place
-            (subst (IsMarked marks) row (closed (slice_index targets n) marked n (reads targets n few))) h.unmarked);
+            (rw (← row) (closed (slice_index targets n) marked n (reads targets n few))) h.unmarked);
       }
 
   stuck_after : (s : m.State) (cs : List ℕ) → IsStuck s → AllByRecursion (λ c. c < width) cs
@@ -127,7 +126,7 @@ module _ (m : Model) (vs : List Keyed) (label : List ℕ) (width : ℕ) (can : w
   unmarked_lost j u s at stands none (c ∷ cs, all, shown) =
       let h = stuck_after s cs (record { place = j; visit = u; at = at; stands = stands; unmarked = none }) all.1 in
       let inside : h.place < length vs = get-below vs h.place h.visit h.at in
-      let (b, is) = get-some flags h.place (omega (arith, inside, places)) in
+      let (b, is) = get-some flags h.place (omega arith) in
       go h b is (sym shown.1)
     where
       go : (h : IsStuck (after_choices m s cs)) (b : Bool) → slice_get flags h.place ≡ Some b
@@ -150,14 +149,14 @@ module _ (m : Model) (start : List ℕ) (z : Search) (h : HasClosed m start z) (
   -- all are marked
   pub comes_again : ((j : ℕ) → j < length marks → IsMarked marks j) → CanComeAgain m width x label
   comes_again all = wherever m start z h x stands (λ s. CanStillCome m width s label) (λ j u s at own.
-      lasts j u s at own (all j (let inside = get-below vs j u at in omega (arith, inside, rows))))
+      lasts j u s at own (all j (omega (arith, get-below vs j u at))))
 
   -- this one isn't, and all before it are
   pub is_lost : (j : ℕ) → slice_get marks j ≡ Some false → ((k : ℕ) → k < j → IsMarked marks k)
       → IsLost m width x label (way_to z.visits.items j)
   is_lost j none before =
       let low : j < length marks = get-below marks j false none in
-      let (u, at) = get-some vs j (omega (arith, low, rows)) in
+      let (u, at) = get-some vs j (omega arith) in
       let (can, own) = way_there m start z h x stands j u at in
       record {
         can = can;

@@ -1,6 +1,6 @@
 -- One choice is made: from what was known before to what is known after it.
 use Rattle.std.proofs.Common.{◌≡◌, ◌≢◌, ℕ, ◌+◌, ◌<◌, ◌≤◌, ◌⊎◌, inl, inr, List, [], ◌∷◌, ◌++◌, length, length-append}
-use Rattle.std.proofs.Common.{Some, slice_get, ap, sym, subst, ◌∙◌, arith}
+use Rattle.std.proofs.Common.{Some, slice_get, sym, subst, ◌∙◌, arith}
 use Rattle.std.proofs.lemmas.Bool.{cases_eq, cases_lt}
 use Rattle.pip_search.specs.Systems.{Model, LeadsOn}
 use Rattle.pip_search.specs.Growing.{Grew, HasLabel, Told}
@@ -16,7 +16,7 @@ pub some-same : {X : Type 0} {x y : X} → Some x ≡ Some y → x ≡ y
 some-same e = cc
 
 pub at-same : {X : Type 0} (xs : List X) (i : ℕ) (x y : X) → slice_get xs i ≡ Some x → slice_get xs i ≡ Some y → x ≡ y
-at-same xs i x y e f = some-same (sym e ∙ f)
+at-same xs i x y e f = some-same (cc)
 
 -- ---- one visit more
 
@@ -84,45 +84,42 @@ module _ (m : Model) (start : List ℕ) (vs : List Keyed) (fs : List Found) (i c
   new_visit : IsVisit m start vs2 (length vs) x
   new_visit = inr (record {
     from = v;
-    at = subst (λ p. slice_get vs2 p ≡ Some v) (sym n.parent) at_i;
+    at = rw (← n.parent) at at_i;
     earlier = let e = n.parent in let b : i < length vs = get-below vs i v n.at in omega arith;
-    choice = let e = n.choice in let b = n.can in omega arith;
+    choice = omega arith;
     depth = n.depth;
-    run = subst (λ p. StartsRun p (step_of v) x.choice x.run) (sym n.parent)
-        (subst (λ d. StartsRun i (step_of v) d x.run) (sym n.choice) n.run);
+    run = rw n.parent (subst (λ d. StartsRun i (step_of v) d x.run) (sym n.choice) n.run);
     shown = n.shown;
-    leads = subst (λ d. LeadsOn m (key_of v) d (key_of x) n.shown) (sym n.choice) n.leads;
+    leads = rw n.choice n.leads;
   })
 
   visits_then : (j : ℕ) (u : Keyed) → slice_get vs2 j ≡ Some u → IsVisit m start vs2 j u
   visits_then j u e = elim (get-back vs x j u e) [
     | inl old ↦ visit_more m start vs x j u (h.visits j u old)
-    | inr new ↦ subst (λ k. IsVisit m start vs2 k u) (sym new.0)
-        (subst (λ y. IsVisit m start vs2 (length vs) y) (sym new.1) new_visit)
+    | inr new ↦ rw new.0 (subst (λ y. IsVisit m start vs2 (length vs) y) (sym new.1) new_visit)
   ]
 
   x_low : x.depth ≤ length vs
-  x_low = let a = h.low i v n.at in let b : i < length vs = get-below vs i v n.at in let d = n.depth in omega arith
+  x_low = let a = h.low i v n.at in let b : i < length vs = get-below vs i v n.at in omega arith
 
   low_then : (j : ℕ) (u : Keyed) → slice_get vs2 j ≡ Some u → u.depth ≤ j
   low_then j u e = elim (get-back vs x j u e) [
     | inl old ↦ h.low j u old
-    | inr new ↦ let d : u.depth ≡ x.depth = ap (λ y. y.depth) new.1 in let a = new.0 in let b = x_low in omega arith
+    | inr new ↦ let d : u.depth ≡ x.depth = rw new.1 in omega (arith, x_low)
   ]
 
   near_x : (j : ℕ) (u : Keyed) → slice_get vs2 j ≡ Some u → u.depth ≤ v.depth + 1
   near_x j u e = elim (get-back vs x j u e) [
     | inl old ↦ h.near v j u n.at old
-    | inr new ↦ let d : u.depth ≡ x.depth = ap (λ y. y.depth) new.1 in let b = n.depth in omega arith
+    | inr new ↦ let d : u.depth ≡ x.depth = rw new.1 in omega arith
   ]
 
   order_then : (j k : ℕ) (u w : Keyed) → j ≤ k → slice_get vs2 j ≡ Some u → slice_get vs2 k ≡ Some w → u.depth ≤ w.depth
   order_then j k u w le e f = elim (get-back vs x k w f) [
-    | inr new ↦ let d : w.depth ≡ x.depth = ap (λ y. y.depth) new.1 in let a = near_x j u e in let b = n.depth in
-        omega arith
+    | inr new ↦ let d : w.depth ≡ x.depth = rw new.1 in omega (arith, near_x j u e)
     | inl old ↦ elim (get-back vs x j u e) [
       | inl early ↦ h.order j k u w le early old
-      | inr late ↦ let b : k < length vs = get-below vs k w old in let a = late.0 in absurd (omega arith)
+      | inr late ↦ let b : k < length vs = get-below vs k w old in absurd (omega arith)
     ]
   ]
 
@@ -131,16 +128,15 @@ module _ (m : Model) (start : List ℕ) (vs : List Keyed) (fs : List Found) (i c
 
   pub with_visit : IsExploring m start (vs ++ x ∷ []) fs i c
   with_visit = record {
-    some = let a = h.some in let b = grown in omega arith;
+    some = omega (arith, grown);
     before = λ j d a b. made_more m start vs x fs j d (h.before j d a b);
     here = λ d a. made_more m start vs x fs i d (h.here d a);
     visits = visits_then;
     labels = λ k f e. shown_more m start vs x f (h.labels k f e);
     low = low_then;
     order = order_then;
-    near = λ w j u e f. let d : w.depth ≡ v.depth = ap (λ y. y.depth) (is_v w e) in let a = near_x j u f in omega arith;
-    soon = λ w k f e g. let d : w.depth ≡ v.depth = ap (λ y. y.depth) (is_v w e) in let a = h.soon v k f n.at g in
-        omega arith;
+    near = λ w j u e f. let d : w.depth ≡ v.depth = rw (is_v w e) in omega (arith, near_x j u f);
+    soon = λ w k f e g. let d : w.depth ≡ v.depth = rw (is_v w e) in omega (arith, h.soon v k f n.at g);
   }
 
 -- ---- one label more
@@ -181,14 +177,14 @@ module _ (m : Model) (start : List ℕ) (vs : List Keyed) (fs : List Found) (i c
     here = λ e a. made_told m vs fs f i e (h.here e a);
     visits = h.visits;
     labels = λ k g e. elim (get-back fs f k g e)
-        [ inl old ↦ h.labels k g old | inr new ↦ subst (λ y. IsShown m vs y) (sym new.1) s ];
+        [ inl old ↦ h.labels k g old | inr new ↦ rw new.1 s ];
     low = h.low;
     order = h.order;
     near = h.near;
-    soon = λ w k g e a. let q : w.depth ≡ v.depth = ap (λ y. y.depth) (at-same vs i w v e at) in
+    soon = λ w k g e a. let q : w.depth ≡ v.depth = rw (at-same vs i w v e at) in
         elim (get-back fs f k g a) [
           | inl old ↦ h.soon w k g e old
-          | inr new ↦ let r : g.depth ≡ f.depth = ap (λ y. y.depth) new.1 in omega arith
+          | inr new ↦ let r : g.depth ≡ f.depth = rw new.1 in omega arith
         ];
   }
 
@@ -201,7 +197,7 @@ with_made m start vs fs i c h w = record {
   before = h.before;
   here = λ d a. elim (below d a) [
     | inl less ↦ h.here d less
-    | inr same ↦ subst (λ e. WasMade m vs fs i e) (sym same) w
+    | inr same ↦ rw same w
   ];
   visits = h.visits;
   labels = h.labels;
@@ -236,31 +232,38 @@ module _ (m : Model) (start : List ℕ) (vs : List Keyed) (fs : List Found) (i c
     near : to.depth ≤ v.depth + 1
 
   reached : (ws : List Keyed) → Grew vs ws key i c d r → Standing ws
-  reached ws (inl keeps) = subst Standing (sym keeps.same) (record {
+  reached ws (inl keeps) = rw keeps.same (record {
     exploring = h;
     from = k.at;
     place = keeps.has.place;
-    to = keeps.has.at.visit;
+    to
+        = keeps.has.at.visit;
     there = keeps.has.at.at;
     same = keeps.has.at.same;
-    near = h.near v keeps.has.place keeps.has.at.visit k.at keeps.has.at.at;
+    near = h.near v keeps.has.place
+        keeps.has.at.visit k.at keeps.has.at.at;
   })
-  reached ws (inr adds) = subst Standing (sym adds.whole) (record {
-    exploring = with_visit m start vs fs i c h v adds.visit (record {
-      at = k.at;
-      parent = adds.parent_is;
-      choice = adds.choice_is;
-      can = k.can;
-      depth = adds.depth_is ∙ k.depth;
-      run = subst (λ y. StartsRun i (step_of v) c y) (sym adds.run_is) k.run;
-      shown = shown;
-      leads = subst (λ y. LeadsOn m (key_of v) c (unpacked_key y) shown) (sym adds.key_is) k.leads;
-    });
-    from = get-more vs (adds.visit ∷ []) i v k.at;
+  reached ws (inr adds) = rw adds.whole (record {
+    exploring = with_visit m start vs fs i c h v adds.visit
+        (record {
+          at = k.at;
+          parent = adds.parent_is;
+          choice = adds.choice_is;
+          can = k.can;
+          depth = adds.depth_is ∙
+              k.depth;
+          run = subst (λ y. StartsRun i (step_of v) c y) (sym adds.run_is) k.run;
+          shown = shown;
+          leads = subst
+              (λ y. LeadsOn m (key_of v) c (unpacked_key y) shown) (sym adds.key_is) k.leads;
+        });
+    from = get-more vs
+        (adds.visit ∷ []) i v k.at;
     place = length vs;
     to = adds.visit;
     there = get-new vs adds.visit;
-    same = adds.key_is;
+    same
+        = adds.key_is;
     near = let a = adds.depth_is in let b = k.depth in omega arith;
   })
 
@@ -280,7 +283,7 @@ module _ (m : Model) (start : List ℕ) (vs : List Keyed) (fs : List Found) (i c
           (rank.visits s.place (step_of s.to) (omega arith) (map_at step_of ws s.place s.to s.there))
     ];
     shown = shown;
-    leads = subst (λ y. LeadsOn m (key_of v) c (unpacked_key y) shown) (sym s.same) k.leads;
+    leads = rw s.same k.leads;
     told = told;
   })
 
@@ -299,28 +302,26 @@ module _ (m : Model) (start : List ℕ) (vs : List Keyed) (fs : List Found) (i c
   told_then : (ws : List Keyed) (gs : List Found) (s : Standing ws) → IsRanked (steps_of ws) gs i (c + 1)
       → Told fs gs shown i c d → IsExploring m start ws gs i (c + 1)
   told_then ws gs s rank (inl keeps) =
-      let q : IsRanked (steps_of ws) fs i (c + 1) = subst (λ y. IsRanked (steps_of ws) y i (c + 1)) keeps.same rank in
-      subst (λ y. IsExploring m start ws y i (c + 1)) (sym keeps.same)
-      (made ws fs s q s.exploring (told_kept ws s q keeps.has))
+      let q : IsRanked (steps_of ws) fs i (c + 1) = rw (← keeps.same) rank in
+      rw keeps.same (made ws fs s q s.exploring (told_kept ws s q keeps.has))
   told_then ws gs s rank (inr adds) =
       let f = adds.found in
-      let q : IsRanked (steps_of ws) (fs ++ f ∷ []) i (c + 1) = subst (λ y. IsRanked (steps_of ws) y i (c + 1))
-      adds.whole rank in
+      let q : IsRanked (steps_of ws) (fs ++ f ∷ []) i (c + 1) = rw (← adds.whole) rank in
       let depth : f.depth ≡ v.depth + 1 = adds.depth_is ∙ k.depth in
-      subst (λ y. IsExploring m start ws y i (c + 1)) (sym adds.whole)
-      (made ws (fs ++ f ∷ []) s q
-      (with_label m start ws fs i c s.exploring v s.from f
+      rw adds.whole (made ws (fs ++ f ∷ []) s q (with_label m start ws fs i c s.exploring v s.from f
       (record {
         from = v;
         at = subst (λ p. slice_get ws p ≡ Some v) (sym adds.at_is) s.from;
-        choice = let a = adds.choice_is in let b = k.can in omega arith;
+        choice = let a
+            = adds.choice_is in let b = k.can in omega arith;
         depth = depth;
-        some = λ e. adds.some (sym adds.label_is ∙ e);
+        some = λ e. adds.some
+            (sym adds.label_is ∙ e);
         next = unpacked_key key;
-        leads = subst (λ p. LeadsOn m (key_of v) p (unpacked_key key) f.label.items) (sym adds.choice_is)
+        leads = subst
+            (λ p. LeadsOn m (key_of v) p (unpacked_key key) f.label.items) (sym adds.choice_is)
             (subst (λ y. LeadsOn m (key_of v) c (unpacked_key key) y) (sym adds.label_is) k.leads);
-      })
-      depth)
+      }) depth)
       (λ some. record {
         place = length fs;
         found = f;
@@ -337,6 +338,6 @@ module _ (m : Model) (start : List ℕ) (vs : List Keyed) (fs : List Found) (i c
 -- a visit stays where it stands
 pub grew_same : (vs ws : List Keyed) (key : List ℕ) (parent choice depth run i : ℕ) (v : Keyed)
     → slice_get vs i ≡ Some v → Grew vs ws key parent choice depth run → slice_get ws i ≡ slice_get vs i
-grew_same vs ws key parent choice depth run i v at (inl keeps) = ap (λ y. slice_get y i) keeps.same
-grew_same vs ws key parent choice depth run i v at (inr adds) = ap (λ y. slice_get y i) adds.whole
-    ∙ get-more vs (adds.visit ∷ []) i v at ∙ sym at
+grew_same vs ws key parent choice depth run i v at (inl keeps) = rw keeps.same
+grew_same vs ws key parent choice depth run i v at (inr adds) = rw
+    (adds.whole, get-more vs (adds.visit ∷ []) i v at, ← at)

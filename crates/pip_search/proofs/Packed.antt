@@ -1,6 +1,6 @@
 -- Words as bytes, and back.
 use Rattle.std.proofs.Common.{◌≡◌, ℕ, suc, ◌+◌, ◌*◌, ◌/◌, ◌%◌, ◌^◌, ◌<◌, ◌≤◌, List, [], ◌∷◌, ◌++◌, length, get_or, drop}
-use Rattle.std.proofs.Common.{inl, inr, refl, ap, sym, ◌∙◌, arith, append_assoc}
+use Rattle.std.proofs.Common.{inl, inr, refl, ap, sym, arith, append_assoc}
 use Rattle.std.proofs.lemmas.Bool.{cases_lt}
 use Rattle.std.proofs.lemmas.Bool.Decides.{nat_tests}
 use Rattle.std.proofs.lemmas.List.{at_drop_more}
@@ -31,19 +31,20 @@ unfolding word_with
 word_split q b low same =
     let first : q / 128 * 128 < 2 ^ 32 = omega arith in
     let whole : q / 128 * 128 + b % 128 ≡ q = omega arith in
-    ap (λ x. (x + b % 128) % 2 ^ 32) (mod-eq_of_lt first) ∙ ap (λ x. x % 2 ^ 32) whole ∙ mod-eq_of_lt low
+    rw (mod-eq_of_lt first, whole, mod-eq_of_lt low)
 
 -- ---- a word
 
 bits_join : (unit w q : ℕ) (rest : List ℕ) → q ≡ w / unit → q < 2 ^ 32 → (w < unit → q ≡ 0)
     → unpacked_after (q / 128) (seven_bits unit w ++ rest) ≡ unpacked_after q rest
 bits_join unit w q rest is low none = elim (cases_lt w unit) [
-  | inl less ↦ ap (λ bs. unpacked_after (q / 128) (bs ++ rest)) (bits_none unit w less)
-      ∙ ap (λ x. unpacked_after x rest) (ap (λ x. x / 128) (none less) ∙ sym (none less))
-  | inr more ↦ ap (λ bs. unpacked_after (q / 128) (bs ++ rest)) (bits_some unit w more)
-      ∙ more_bits (q / 128) (w / unit % 128 + 128) rest (omega arith)
-      ∙ ap (λ x. unpacked_after x rest) (word_split q (w / unit % 128 + 128) low
-      (let same : w / unit % 128 ≡ q % 128 = ap (λ x. x % 128) (sym is) in omega arith))
+  | inl less ↦ rw (bits_none unit w less, none less, ← none less)
+  | inr more ↦ rw (
+    bits_some unit w more,
+    more_bits (q / 128) (w / unit % 128 + 128) rest (omega arith),
+    word_split q
+        (w / unit % 128 + 128) low (let same : w / unit % 128 ≡ q % 128 = ap (λ x. x % 128) (sym is) in omega arith),
+  )
 ]
 
 pub word_back : (w : ℕ) (rest : List ℕ) → w < 2 ^ 32
@@ -59,16 +60,17 @@ word_back w rest low =
     let first : w / 0x10000000 ≡ w / 0x200000 / 128 = omega arith in
     let second : w / 0x200000 ≡ w / 0x4000 / 128 = omega arith in
     let third : w / 0x4000 ≡ w / 0x80 / 128 = omega arith in
-    ap (λ x. unpacked_after 0 x) all ∙ ap (λ x. unpacked_after x (seven_bits 0x10000000 w ++ b)) none
-    ∙ bits_join 0x10000000 w (w / 0x10000000) b refl (omega arith) (λ h. omega arith)
-    ∙ ap (λ x. unpacked_after x b) first
-    ∙ bits_join 0x200000 w (w / 0x200000) c refl (omega arith) (λ h. omega arith)
-    ∙ ap (λ x. unpacked_after x c) second
-    ∙ bits_join 0x4000 w (w / 0x4000) d refl (omega arith) (λ h. omega arith)
-    ∙ ap (λ x. unpacked_after x d) third
-    ∙ bits_join 0x80 w (w / 0x80) e refl (omega arith) (λ h. omega arith)
-    ∙ last_bits (w / 128) (w % 128) rest (omega arith)
-    ∙ ap (λ x. x ∷ unpacked_after 0 rest) (word_split w (w % 128) low (omega arith))
+    cc (
+      bits_join 0x10000000 w (w / 0x10000000) b refl (omega arith) (λ h. omega arith),
+      bits_join 0x200000 w
+          (w / 0x200000) c refl (omega arith) (λ h. omega arith),
+      bits_join 0x4000 w (w / 0x4000) d refl (omega arith)
+          (λ h. omega arith),
+      bits_join 0x80 w (w / 0x80) e refl (omega arith) (λ h. omega arith),
+      last_bits (w / 128)
+          (w % 128) rest (omega arith),
+      word_split w (w % 128) low (omega arith),
+    )
 
 pub small_word : (w : ℕ) → w < 128 → packed_word w ≡ w ∷ []
 unfolding packed_word
@@ -76,9 +78,13 @@ small_word w low =
     let d = seven_bits 0x80 w ++ (w % 128) ∷ [] in
     let c = seven_bits 0x4000 w ++ d in
     let b = seven_bits 0x200000 w ++ c in
-    ap (λ x. x ++ b) (bits_none 0x10000000 w (omega arith)) ∙ ap (λ x. x ++ c) (bits_none 0x200000 w (omega arith))
-    ∙ ap (λ x. x ++ d) (bits_none 0x4000 w (omega arith))
-    ∙ ap (λ x. x ++ (w % 128) ∷ []) (bits_none 0x80 w (omega arith)) ∙ ap (λ x. x ∷ []) (mod-eq_of_lt low)
+    rw (
+      bits_none 0x10000000 w (omega arith),
+      bits_none 0x200000 w (omega arith),
+      bits_none 0x4000 w (omega arith),
+      bits_none 0x80 w (omega arith),
+      mod-eq_of_lt low,
+    )
 
 -- ---- a key
 
@@ -95,7 +101,7 @@ pub key_back : (ws : List ℕ) → ((i : ℕ) → get_or ws i 0 < 2 ^ 32) → un
 unfolding packed_key unpacked_after
 key_back [] fit = refl
 key_back (w ∷ ws) fit =
-    word_back w (packed_key ws) (fit 0) ∙ ap (λ x. w ∷ x) (key_back ws (λ i. fit (suc i)))
+    rw (word_back w (packed_key ws) (fit 0), key_back ws (λ i. fit (suc i)))
 
 -- ---- the loops
 
@@ -105,10 +111,15 @@ pub pack_step : (bytes more key : List ℕ) (i w : ℕ) → i < length key → w
 pack_step bytes more key i w low is grew h =
     let e : packed_key (drop i key) ≡ packed_key (get_or key i 0 ∷ drop (i + 1) key) =
     at_drop_more packed_key key i 0 low in
-    ap (λ x. x ++ packed_key (drop (i + 1) key)) grew
-    ∙ append_assoc bytes (packed_word w) (packed_key (drop (i + 1) key))
-    ∙ ap (λ x. bytes ++ (packed_word x ++ packed_key (drop (i + 1) key))) is
-    ∙ ap (λ x. bytes ++ x) (sym (e ∙ packed_more (get_or key i 0) (drop (i + 1) key))) ∙ h
+    rw (
+      grew,
+      append_assoc bytes (packed_word w) (packed_key (drop (i + 1) key)),
+      is,
+      ← packed_more (get_or key i 0)
+          (drop (i + 1) key),
+      ← e,
+      h,
+    )
 
 pub unpack_more : (words bytes : List ℕ) (i w b : ℕ) (all : List ℕ) → i < length bytes → b ≡ get_or bytes i 0 → 128 ≤ b
     → words ++ unpacked_after w (drop i bytes) ≡ all
@@ -116,8 +127,7 @@ pub unpack_more : (words bytes : List ℕ) (i w b : ℕ) (all : List ℕ) → i 
 unpack_more words bytes i w b all low is high h =
     let e : unpacked_after w (drop i bytes) ≡ unpacked_after w (get_or bytes i 0 ∷ drop (i + 1) bytes) =
     at_drop_more (unpacked_after w) bytes i 0 low in
-    ap (λ x. words ++ x) (sym (more_bits w b (drop (i + 1) bytes) high)
-    ∙ ap (λ x. unpacked_after w (x ∷ drop (i + 1) bytes)) is ∙ sym e) ∙ h
+    rw (← more_bits w b (drop (i + 1) bytes) high, is, ← e, h)
 
 pub unpack_last : (words more bytes : List ℕ) (i w b : ℕ) (all : List ℕ) → i < length bytes → b ≡ get_or bytes i 0
     → b < 128 → more ≡ words ++ word_with w b ∷ [] → words ++ unpacked_after w (drop i bytes) ≡ all
@@ -125,10 +135,15 @@ pub unpack_last : (words more bytes : List ℕ) (i w b : ℕ) (all : List ℕ) �
 unpack_last words more bytes i w b all low is small grew h =
     let e : unpacked_after w (drop i bytes) ≡ unpacked_after w (get_or bytes i 0 ∷ drop (i + 1) bytes) =
     at_drop_more (unpacked_after w) bytes i 0 low in
-    ap (λ x. x ++ unpacked_after 0 (drop (i + 1) bytes)) grew
-    ∙ append_assoc words (word_with w b ∷ []) (unpacked_after 0 (drop (i + 1) bytes))
-    ∙ ap (λ x. words ++ x) (sym (last_bits w b (drop (i + 1) bytes) small)
-    ∙ ap (λ x. unpacked_after w (x ∷ drop (i + 1) bytes)) is ∙ sym e) ∙ h
+    rw (
+      grew,
+      append_assoc words (word_with w b ∷ []) (unpacked_after 0 (drop (i + 1) bytes)),
+      ← last_bits w b
+          (drop (i + 1) bytes) small,
+      is,
+      ← e,
+      h,
+    )
 
 pub words_none : (w : ℕ) → unpacked_after w [] ≡ []
 unfolding unpacked_after

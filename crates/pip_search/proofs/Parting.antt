@@ -1,6 +1,6 @@
 -- A part of a certificate, one choice more at a time.
 use Rattle.std.proofs.Common.{◌≡◌, ◌≢◌, ℕ, zero, suc, ◌+◌, ◌<◌, ◌≤◌, ◌⊎◌, inl, inr, List, [], ◌∷◌, ◌++◌, length}
-use Rattle.std.proofs.Common.{Some, slice_get, refl, ap, sym, subst, ◌∙◌, arith}
+use Rattle.std.proofs.Common.{Some, slice_get, refl, subst, arith}
 use Rattle.std.proofs.lemmas.Bool.{cases_lt}
 use Rattle.pip_search.specs.Certificates.{CanShow, HasStop, HasText, IsClosedPart, IsMet, IsReachedBy}
 use Rattle.pip_search.specs.Certificates.{Portion, Stop}
@@ -22,7 +22,7 @@ pub has_new : (xs ys : List Stop) (key : List ℕ) (n : ℕ) → ys ≡ xs ++ st
 has_new xs ys key n whole = record {
   place = length xs;
   stop = stop_at key n;
-  at = ap (λ zs. slice_get zs (length xs)) whole ∙ get-new xs (stop_at key n);
+  at = rw (whole, get-new xs (stop_at key n));
   same = refl;
   soon = omega arith;
 }
@@ -35,14 +35,14 @@ has_own xs i x key n at same soon = record { place = i; stop = x; at = at; same 
 -- what may be added leaves what is there
 pub may_at : (xs ys : List Stop) (x : Stop) (i : ℕ) (y : Stop) → AddsAtMostOne xs ys x → slice_get xs i ≡ Some y
     → slice_get ys i ≡ Some y
-may_at xs ys x i y (inl same) at = ap (λ zs. slice_get zs i) same ∙ at
-may_at xs ys x i y (inr more) at = ap (λ zs. slice_get zs i) more ∙ get-more xs (x ∷ []) i y at
+may_at xs ys x i y (inl same) at = rw (same, at)
+may_at xs ys x i y (inr more) at = rw (more, get-more xs (x ∷ []) i y at)
 
 -- and nothing else comes
 pub may_back : (xs ys : List Stop) (x : Stop) (i : ℕ) (y : Stop) → AddsAtMostOne xs ys x → slice_get ys i ≡ Some y
     → (slice_get xs i ≡ Some y) ⊎ ((i ≡ length xs) × (y ≡ x))
-may_back xs ys x i y (inl same) at = inl (ap (λ zs. slice_get zs i) (sym same) ∙ at)
-may_back xs ys x i y (inr more) at = get-back xs x i y (ap (λ zs. slice_get zs i) (sym more) ∙ at)
+may_back xs ys x i y (inl same) at = inl (rw (← same, at))
+may_back xs ys x i y (inr more) at = get-back xs x i y (rw (← more, at))
 
 pub may_has : (xs ys : List Stop) (x : Stop) (key : List ℕ) (n : ℕ) → AddsAtMostOne xs ys x → HasStop xs key n
     → HasStop ys key n
@@ -60,15 +60,14 @@ pub told_has : (fs gs : List Found) (label text : List ℕ) (at choice depth : �
     → HasText (labels fs) text → HasText (labels gs) text
 told_has fs gs label text at choice depth (inl keeps) h = record {
   place = h.place;
-  at = ap (λ zs. slice_get (labels zs) h.place) keeps.same ∙ h.at;
+  at = rw (keeps.same, h.at);
 }
 told_has fs gs label text at choice depth (inr adds) h =
     let (f, (there, same)) = at_map (λ (f : Found). f.label.items) fs h.place text h.at in
-    let now : slice_get gs h.place ≡ Some f = ap (λ zs. slice_get zs h.place) adds.whole
-    ∙ get-more fs (adds.found ∷ []) h.place f there in
+    let now : slice_get gs h.place ≡ Some f = rw (adds.whole, get-more fs (adds.found ∷ []) h.place f there) in
     record {
       place = h.place;
-      at = map_at (λ (g : Found). g.label.items) gs h.place f now ∙ ap (λ z. Some z) same;
+      at = rw (map_at (λ (g : Found). g.label.items) gs h.place f now, same);
     }
 
 pub told_new : (fs gs : List Found) (label : List ℕ) (at choice depth : ℕ) → Told fs gs label at choice depth
@@ -77,28 +76,26 @@ told_new fs gs label at choice depth (inl keeps) some = elim (keeps.has) [
   | inl none ↦ absurd (some none)
   | inr has ↦ record {
     place = has.place;
-    at = ap (λ zs. slice_get (labels zs) has.place) keeps.same
-        ∙ map_at (λ (g : Found). g.label.items) fs has.place has.at.found has.at.at ∙ ap (λ z. Some z) has.at.same;
+    at = rw (keeps.same, map_at (λ (g : Found). g.label.items) fs has.place has.at.found has.at.at, has.at.same);
   }
 ]
 told_new fs gs label at choice depth (inr adds) some =
-    let now : slice_get gs (length fs) ≡ Some adds.found = ap (λ zs. slice_get zs (length fs)) adds.whole
-    ∙ get-new fs adds.found in
+    let now : slice_get gs (length fs) ≡ Some adds.found = rw (adds.whole, get-new fs adds.found) in
     record {
       place = length fs;
-      at = map_at (λ (g : Found). g.label.items) gs (length fs) adds.found now ∙ ap (λ z. Some z) adds.label_is;
+      at = rw (map_at (λ (g : Found). g.label.items) gs (length fs) adds.found now, adds.label_is);
     }
 
 -- a label that is there was there, or is the one that was told
 told_back : (fs gs : List Found) (label text : List ℕ) (at choice depth i : ℕ) → Told fs gs label at choice depth
     → slice_get (labels gs) i ≡ Some text → (slice_get (labels fs) i ≡ Some text) ⊎ ((label ≢ []) × (text ≡ label))
 told_back fs gs label text at choice depth i (inl keeps) e =
-    inl (ap (λ zs. slice_get (labels zs) i) (sym keeps.same) ∙ e)
+    inl (rw (← keeps.same, e))
 told_back fs gs label text at choice depth i (inr adds) e =
     let (f, (there, same)) = at_map (λ (f : Found). f.label.items) gs i text e in
-    elim (get-back fs adds.found i f (ap (λ zs. slice_get zs i) (sym adds.whole) ∙ there)) [
-      | inl old ↦ inl (map_at (λ (g : Found). g.label.items) fs i f old ∙ ap (λ z. Some z) same)
-      | inr (last, new) ↦ inr (adds.some, sym same ∙ ap (λ (g : Found). g.label.items) new ∙ adds.label_is)
+    elim (get-back fs adds.found i f (rw (← adds.whole, there))) [
+      | inl old ↦ inl (rw (map_at (λ (g : Found). g.label.items) fs i f old, same))
+      | inr (last, new) ↦ inr (adds.some, rw (← same, new, adds.label_is))
     ]
 
 -- ---- a choice
@@ -124,7 +121,7 @@ reached_next : (m : Model) (s : m.State) (x : Stop) (c : ℕ) (next shown : List
 reached_next m s x c next shown can leads r = record {
   choices = c ∷ r.choices;
   can = (can, r.can);
-  count = let a = r.count in omega arith;
+  count = omega arith;
   stands = (leads (after_choices m s r.choices) r.stands).0;
 }
 
@@ -165,8 +162,7 @@ module _ (m : Model) (start : List ℕ) (p q : Part) (i c : ℕ) (h : IsGrowing 
       let r = h.reached s stands in
       elim (may_back (stops p.keys.items) (stops q.keys.items) (stop_at next (x.depth + 1)) j y keys e) [
         | inl old ↦ r.keys j y old
-        | inr (last, new) ↦ subst (λ z. IsReachedBy m s z) (sym new)
-            (reached_next m s x c next shown can leads (r.keys i x at))
+        | inr (last, new) ↦ rw new (reached_next m s x c next shown can leads (r.keys i x at))
       ]
 
   all_labels_shown : (s : m.State) → m.stands start s → (j : ℕ) (text : List ℕ)
@@ -177,10 +173,10 @@ module _ (m : Model) (start : List ℕ) (p q : Part) (i c : ℕ) (h : IsGrowing 
         | inl old ↦ r.labels j text old
         | inr (some, same) ↦
             let own = r.keys i x at in (
-              λ none. some (sym same ∙ none),
+              λ none. some (cc),
               record {
                 choices = c ∷ own.choices;
-                shown = ((can, own.can), same ∙ (leads (after_choices m s own.choices) own.stands).1);
+                shown = ((can, own.can), cc ((leads (after_choices m s own.choices) own.stands).1));
               },
             )
       ]
@@ -193,8 +189,7 @@ module _ (m : Model) (start : List ℕ) (p q : Part) (i c : ℕ) (h : IsGrowing 
         | inr most ↦
             let same : d ≡ c = omega arith in
             let alike : x ≡ y = at-same (stops p.keys.items) i x y at old in
-            subst (λ k. IsMet m (portion_of q) y k) (sym same)
-            (subst (λ z. IsMet m (portion_of q) z c) alike own_met)
+            rw same (subst (λ z. IsMet m (portion_of q) z c) alike own_met)
       ]
 
   pub grows : IsGrowing m start q i (c + 1)
@@ -232,15 +227,15 @@ first_grows m start p x reached keys none named = record {
   before = λ j d y low e can. absurd (omega arith);
   here = λ d y low e. absurd (omega arith);
   reached = λ s stands. record {
-    keys = λ j y e. only s stands j y (ap (λ zs. slice_get zs j) (sym keys) ∙ e);
+    keys = λ j y e. only s stands j y (rw (← keys, e));
     labels = λ j text e. absurd (let gone : slice_get (labels []) j ≡ Some text =
-        ap (λ zs. slice_get (labels zs) j) (sym none) ∙ e in cc);
+        cc in cc);
   };
-  named = subst (λ fs. AreNamed (labels fs) p.labels) (sym none) named;
+  named = rw none named;
 }
   where
     only : (s : m.State) → m.stands start s → (j : ℕ) (y : Stop) → slice_get (x ∷ []) j ≡ Some y → IsReachedBy m s y
-    only s stands zero y e = let same : x ≡ y = cc in subst (λ z. IsReachedBy m s z) same (reached s stands)
+    only s stands zero y e = let same : x ≡ y = cc in rw (← same) (reached s stands)
     only s stands (suc j) y e = absurd cc
 
 -- a part all of whose choices were made is closed, but for what it asks

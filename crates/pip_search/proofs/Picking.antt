@@ -1,12 +1,12 @@
 -- What is at the places of a list that is mapped or filtered.
-use Rattle.std.proofs.Common.{◌≡◌, ℕ, zero, suc, ◌<◌, List, [], ◌∷◌, map, Some, slice_get, refl, ap, sym, ◌∙◌, arith}
+use Rattle.std.proofs.Common.{◌≡◌, ℕ, zero, suc, ◌<◌, List, [], ◌∷◌, map, Some, slice_get, refl, arith}
 use Rattle.std.proofs.Common.{cond}
 use Rattle.std.specs.Prelude.{Bool, true, false, filter}
 
 module _ {X Y : Type 0} (f : X → Y) where
   pub map_at : (xs : List X) (j : ℕ) (x : X) → slice_get xs j ≡ Some x → slice_get (map f xs) j ≡ Some (f x)
   map_at [] j x e = absurd (cc)
-  map_at (y ∷ xs) zero x e = let same : y ≡ x = cc in ap (λ z. Some (f z)) same
+  map_at (y ∷ xs) zero x e = let same : y ≡ x = cc in rw same
   map_at (y ∷ xs) (suc j) x e = map_at xs j x e
 
   pub at_map : (xs : List X) (j : ℕ) (y : Y) → slice_get (map f xs) j ≡ Some y → (x : X)
@@ -27,7 +27,7 @@ module _ {X : Type 0} (p : X → Bool) where
   picked_first : (y : X) (xs : List X) (k : ℕ) (x : X)
       → ((n : ℕ) → slice_get (filter p xs) n ≡ Some x → IsPicked p xs x)
       → p y ≡ true → slice_get (y ∷ filter p xs) k ≡ Some x → IsPicked p (y ∷ xs) x
-  picked_first y xs zero x more is e = let same : y ≡ x = cc in (0, (e, ap p (sym same) ∙ is))
+  picked_first y xs zero x more is e = let same : y ≡ x = cc in (0, (e, rw (← same, is)))
   picked_first y xs (suc n) x more is e = let (j, (at, good)) = more n e in (suc j, (at, good))
 
   -- one that passes stood in the list
@@ -47,8 +47,8 @@ module _ {X : Type 0} (p : X → Bool) where
   filter_at [] j x e good = absurd (cc)
   filter_at (y ∷ xs) zero x e good =
       let same : y ≡ x = cc in
-      let is : p y ≡ true = ap p same ∙ good in
-      (0, ap (λ b. slice_get (cond b (y ∷ filter p xs) (filter p xs)) 0) is ∙ e)
+      let is : p y ≡ true = rw (same, good) in
+      (0, rw (is, e))
   filter_at (y ∷ xs) (suc j) x e good =
       let (k, at) = filter_at xs j x e good in
       elim (p y) as (λ b. (k : ℕ) × (slice_get (cond b (y ∷ filter p xs) (filter p xs)) k ≡ Some x))

@@ -1,11 +1,11 @@
 -- Hashes in cells, one more at a time.
 use Rattle.std.proofs.Common.{◌≡◌, ◌≢◌, ℕ, zero, suc, ◌+◌, ◌*◌, ◌/◌, ◌%◌, ◌-◌, ◌^◌, ◌<◌, ◌≤◌, inl, inr, List, [], ◌∷◌}
-use Rattle.std.proofs.Common.{◌++◌, length, refl, ap, sym, subst, ◌∙◌, arith, get_or, set, get_or-set_same}
+use Rattle.std.proofs.Common.{length, refl, ap, sym, subst, ◌∙◌, arith, get_or, set, get_or-set_same}
 use Rattle.std.proofs.Common.{get_or-set_other}
-use Rattle.std.proofs.Math.ListN.{length-set, replicate, get_or-append}
+use Rattle.std.proofs.Math.ListN.{length-set, replicate}
 use Rattle.std.proofs.Math.Nat.{mul-mod_left}
 use Rattle.std.proofs.lemmas.Bool.{cases_eq, cases_lt}
-use Rattle.std.proofs.lemmas.Nat.{div_below, mod-pow-add, mod_below, mul-le, pow-add, pow_pos, row_fits}
+use Rattle.std.proofs.lemmas.Nat.{mod-pow-add, mod_below, pow-add, pow_pos, row_fits}
 use Rattle.pip_search.specs.Cells.{HaveCells, HasHashes, IsPlaced, IsSized, IsOnTheWay, cells_used, home, tag}
 use Rattle.pip_search.specs.declared.hash_table.HashTable.{HashTable}
 
@@ -18,16 +18,13 @@ tag_fits hash j k =
     let rest : hash * 2 ^ k % 2 ^ k ≡ 0 = mul-mod_left hash (2 ^ k) in
     let whole = mod-pow-add (hash * 2 ^ k) j k in
     let low = mod_below (hash * 2 ^ k / 2 ^ k) (2 ^ j) (pow_pos j) in
-    let fits = row_fits high (2 ^ k) (2 ^ j) (2 ^ k) low (omega arith) in
-    let product = pow-add 2 j k in
-    omega arith
+    omega (arith, row_fits high (2 ^ k) (2 ^ j) (2 ^ k) low (omega arith), pow-add 2 j k)
 
 pub tag_low : (cells : List ℕ) (hash : ℕ) → IsSized cells → tag hash (length cells) + length cells ≤ 2 ^ 32
 tag_low cells hash s =
     let few = s.few in
     let whole : 32 ≡ 32 - s.power + s.power = omega arith in
-    subst (λ n. tag hash n + n ≤ 2 ^ 32) (sym s.count)
-    (subst (λ w. hash * 2 ^ s.power % 2 ^ w + 2 ^ s.power ≤ 2 ^ w) (sym whole)
+    rw s.count (subst (λ w. hash * 2 ^ s.power % 2 ^ w + 2 ^ s.power ≤ 2 ^ w) (sym whole)
     (tag_fits hash (32 - s.power) s.power))
 
 -- ---- how many cells are used
@@ -40,13 +37,13 @@ used_set (zero ∷ cells) zero (suc v) = omega arith
 used_set (suc k ∷ cells) zero zero = omega arith
 used_set (suc k ∷ cells) zero (suc v) = omega arith
 used_set (zero ∷ cells) (suc c) v = used_set cells c v
-used_set (suc k ∷ cells) (suc c) v = let h = used_set cells c v in omega arith
+used_set (suc k ∷ cells) (suc c) v = omega (arith, used_set cells c v)
 
 pub used_full : (cells : List ℕ) → ((c : ℕ) → c < length cells → get_or cells c 0 ≢ 0) → cells_used cells ≡ length cells
 unfolding cells_used
 used_full [] full = refl
 used_full (zero ∷ cells) full = absurd (full 0 (omega arith) refl)
-used_full (suc k ∷ cells) full = let h = used_full cells (λ c low. full (suc c) (omega arith)) in omega arith
+used_full (suc k ∷ cells) full = omega (arith, used_full cells (λ c low. full (suc c) (omega arith)))
 
 pub none_used : (n : ℕ) → cells_used (replicate n 0) ≡ 0
 unfolding cells_used
@@ -58,8 +55,8 @@ none_used (suc n) = none_used n
 module _ (cells : List ℕ) (c v : ℕ) (low : c < length cells) (empty : get_or cells c 0 ≡ 0) (some : v ≢ 0) where
   filled : (x : ℕ) → get_or cells x 0 ≢ 0 → get_or (set cells c v) x 0 ≢ 0
   filled x full = elim (cases_eq x c) [
-    | inl e ↦ λ z. some (sym (get_or-set_same cells c v 0 low) ∙ ap (λ y. get_or (set cells c v) y 0) (sym e) ∙ z)
-    | inr e ↦ λ z. full (sym (get_or-set_other cells c x v 0 e) ∙ z)
+    | inl e ↦ λ z. some (cc (get_or-set_same cells c v 0 low))
+    | inr e ↦ λ z. full (rw (← get_or-set_other cells c x v 0 e) z)
   ]
 
   pub place_kept : (n hash j : ℕ) → IsPlaced cells n hash j → IsPlaced (set cells c v) n hash j
@@ -67,7 +64,7 @@ module _ (cells : List ℕ) (c v : ℕ) (low : c < length cells) (empty : get_or
     cell = p.cell;
     low = p.low;
     there = elim (cases_eq p.cell c) [
-      | inl e ↦ let there = p.there in let same = ap (λ y. get_or cells y 0) e in absurd (omega arith)
+      | inl e ↦ absurd (omega (arith, ap (λ y. get_or cells y 0) e))
       | inr e ↦ get_or-set_other cells c p.cell v 0 e ∙ p.there
     ];
     full = λ x below passes. filled x (p.full x below passes);
@@ -92,14 +89,13 @@ module _ (hashes cells : List ℕ) (at c v : ℕ) (low : c < length cells) (empt
       let count = length-set cells c v in
       let some : v ≢ 0 = λ z. omega arith in
       record {
-        placed = λ j below. subst (λ n. IsPlaced (set cells c v) n (get_or hashes j 0) j) (sym count)
-            (elim (cases_lt j at) [
-              | inl less ↦ place_kept cells c v low empty some (length cells) (get_or hashes j 0) j (h.placed j less)
-              | inr most ↦ let same : at ≡ j = omega arith in
-                  subst (λ k. IsPlaced (set cells c v) (length cells) (get_or hashes k 0) k) same
-                  (place_new cells c v low empty some (length cells) (get_or hashes at 0) at refl is full)
-            ]);
-        few = let u = used_set cells c v in let f = h.few in omega arith;
+        placed = λ j below. rw count (elim (cases_lt j at) [
+          | inl less ↦ place_kept cells c v low empty some (length cells) (get_or hashes j 0) j (h.placed j less)
+          | inr most ↦ let same : at ≡ j = omega arith in subst
+              (λ k. IsPlaced (set cells c v) (length cells) (get_or hashes k 0) k) same
+              (place_new cells c v low empty some (length cells) (get_or hashes at 0) at refl is full)
+        ]);
+        few = omega (arith, used_set cells c v);
       }
 
 -- ---- no hashes, and one more that isn't placed yet
@@ -107,7 +103,7 @@ module _ (hashes cells : List ℕ) (at c v : ℕ) (low : c < length cells) (empt
 pub none_placed : (hashes cells : List ℕ) (n : ℕ) → cells ≡ replicate n 0 → HaveCells hashes cells 0
 none_placed hashes cells n zeros = record {
   placed = λ j below. absurd (omega arith);
-  few = let u = none_used n in let same = ap cells_used zeros in omega arith;
+  few = omega (arith, none_used n, ap cells_used zeros);
 }
 
 pub sized_by : (cells : List ℕ) (power : ℕ) → power ≤ 32 → length cells ≡ 2 ^ power → IsSized cells
@@ -126,7 +122,7 @@ pub filled_by : (x : HashTable) (hashes cells : List ℕ) → x.hashes.items ≡
     → IsSized cells → 4 * length hashes ≤ 3 * length cells → length cells ≤ 3 * length hashes + 16
     → HaveCells hashes cells (length hashes) → HasHashes x
 filled_by x hashes cells is_hashes is_cells sized load spare have = record {
-  sized = subst IsSized (sym is_cells) sized;
+  sized = rw is_cells sized;
   load = rw (is_hashes, is_cells) load;
   spare = rw (is_hashes, is_cells) spare;
   have = rw (is_hashes, is_cells) have;

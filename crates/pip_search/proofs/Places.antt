@@ -1,6 +1,6 @@
 -- Places of a list that grows at its end.
 use Rattle.std.proofs.Common.{◌≡◌, ℕ, zero, suc, ◌<◌, ◌⊎◌, inl, inr, List, [], ◌∷◌, ◌++◌, length, Some, slice_get}
-use Rattle.std.proofs.Common.{refl, ap, arith}
+use Rattle.std.proofs.Common.{refl, arith}
 
 module _ {X : Type 0} where
   -- what stood at a place still stands there
@@ -20,7 +20,7 @@ module _ {X : Type 0} where
   get-back [] x zero y e = inr (refl, cc)
   get-back [] x (suc i) y e = absurd (cc)
   get-back (z ∷ xs) x zero y e = inl e
-  get-back (z ∷ xs) x (suc i) y e = elim (get-back xs x i y e) [ inl h ↦ inl h | inr h ↦ inr (ap suc h.0, h.1) ]
+  get-back (z ∷ xs) x (suc i) y e = elim (get-back xs x i y e) [ inl h ↦ inl h | inr h ↦ inr (rw h.0, h.1) ]
 
   -- it is a place of the list
   pub get-below : (xs : List X) (i : ℕ) (x : X) → slice_get xs i ≡ Some x → i < length xs

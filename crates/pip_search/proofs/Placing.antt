@@ -3,7 +3,7 @@ use Rattle.std.proofs.Common.{◌≡◌, ℕ, suc, ◌<◌, ◌≤◌, inl, inr,
 use Rattle.std.proofs.lemmas.Bool.{cases_eq, cases_lt}
 use Rattle.pip_search.specs.Again.{HasClosed}
 use Rattle.pip_search.specs.Keys.{Keyed, key_of, step_of, steps_of, visits_of}
-use Rattle.pip_search.specs.Orders.{IsBefore, IsNoLater, IsTrail}
+use Rattle.pip_search.specs.Orders.{IsNoLater, IsTrail}
 use Rattle.pip_search.specs.Reached.{AreChoices, Tells}
 use Rattle.pip_search.specs.Systems.{Model, after_choices}
 use Rattle.pip_search.specs.Ways.{way_to}
@@ -23,7 +23,7 @@ module _ (m : Model) (start : List ℕ) (z : Search) (h : HasClosed m start z) (
 
   tells_all : Tells m x vs z.found.items (Closed 0)
   tells_all = closed_tells m start vs z.found.items h.end 0 h.searching.exploring h.searching.ranked
-      (let n = visit_count z h.searching.keyed in let all = h.all in omega arith) 0 x stands
+      (omega (arith, visit_count z h.searching.keyed)) 0 x stands
 
   -- what is true of the states of all visits is true wherever choices lead
   pub wherever : (P : m.State → Type 0)
@@ -44,31 +44,31 @@ module _ (m : Model) (start : List ℕ) (z : Search) (h : HasClosed m start z) (
         let r = tells_all.reached j u at in
         let same : r.choices ≡ way_to (steps_of vs) j = trail_same (steps_of vs) r.choices (way_to (steps_of vs) j) j
         r.trail trail in
-        subst (λ ws. AreChoices m (way_to ws j) × m.stands (key_of u) (after_choices m x (way_to ws j)))
-        (all_steps z h.searching.keyed)
-        (subst (λ cs. AreChoices m cs × m.stands (key_of u) (after_choices m x cs)) same (r.can, r.stands))
+        rw (← all_steps z h.searching.keyed) (subst
+        (λ cs. AreChoices m cs × m.stands (key_of u) (after_choices m x cs)) same (r.can, r.stands))
 
     -- choices that lead to a state of which something isn't true come no earlier, if it is true of all visits before
     pub none_before : (P : m.State → Type 0)
         → ((k : ℕ) (v : Keyed) (s : m.State) → k < j → slice_get vs k ≡ Some v → m.stands (key_of v) s → P s)
         → (cs : List ℕ) → AreChoices m cs → (P (after_choices m x cs) → ⊥) → IsNoLater (way_to z.visits.items j) cs
-    none_before P before cs can off = subst (λ ws. IsNoLater (way_to ws j) cs) (all_steps z h.searching.keyed)
-        (let v = tells_all.all cs can tt in later v.place v.way v.trail v.first (elim (cases_lt v.place j) [
-          | inl less ↦ absurd (off (before v.place v.visit (after_choices m x cs) less v.at v.stands))
+    none_before P before cs can off = rw (← all_steps z h.searching.keyed)
+        (let v = tells_all.all cs can tt in later v.place v.way v.trail v.first
+        (elim (cases_lt v.place j) [
+          | inl less ↦ absurd
+              (off (before v.place v.visit (after_choices m x cs) less v.at v.stands))
           | inr most ↦ most
         ]))
       where
         later : (k : ℕ) (way : List ℕ) → IsTrail (steps_of vs) k way → IsNoLater way cs → j ≤ k
             → IsNoLater (way_to (steps_of vs) j) cs
         later k way other first le = elim (cases_eq j k) [
-          | inl same ↦ subst (λ ds. IsNoLater ds cs)
-              (trail_same (steps_of vs) way (way_to (steps_of vs) j) j
+          | inl same ↦ rw (← trail_same (steps_of vs) way (way_to (steps_of vs) j) j
               (subst (λ i. IsTrail (steps_of vs) i way) (sym same) other) trail) first
           | inr far ↦
               let b = trail_before (steps_of vs) z.found.items h.end 0 h.searching.ranked (way_to (steps_of vs) j) way j
               k (omega arith) trail other in
               elim first [
-                | inl e ↦ inr (subst (λ ds. IsBefore (way_to (steps_of vs) j) ds) e b)
+                | inl e ↦ inr (rw (← e) b)
                 | inr f ↦ inr (before_trans (way_to (steps_of vs) j) way cs b f)
               ]
         ]

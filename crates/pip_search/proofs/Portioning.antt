@@ -1,10 +1,10 @@
 -- The part that a way and marks say, one choice more at a time.
-use Rattle.std.proofs.Common.{◌≡◌, ◌≢◌, ℕ, zero, suc, ◌+◌, ◌<◌, ◌≤◌, inl, inr, List, [], ◌∷◌, ◌++◌, length, map}
-use Rattle.std.proofs.Common.{Some, None, slice_get, refl, ap, sym, subst, ◌∙◌, arith, true, false, cond}
-use Rattle.std.specs.Prelude.{Bool, ◌==◌, ◌||◌, min, if◌then◌else◌, option_map}
+use Rattle.std.proofs.Common.{◌≡◌, ◌≢◌, ℕ, zero, suc, ◌+◌, ◌<◌, inl, inr, List, [], ◌∷◌, ◌++◌, length}
+use Rattle.std.proofs.Common.{Some, slice_get, refl, ap, sym, subst, ◌∙◌, arith, true, false}
+use Rattle.std.specs.Prelude.{Bool, ◌==◌, ◌||◌, min}
 use Rattle.std.specs.List.{list_any}
 use Rattle.std.specs.Str.{bytes_eq}
-use Rattle.std.proofs.lemmas.Bool.{cases_lt, cases_order, eqb-false, ne_eqb}
+use Rattle.std.proofs.lemmas.Bool.{cases_lt, cases_order, ne_eqb}
 use Rattle.std.proofs.lemmas.List.{map-append}
 use Rattle.std.proofs.lemmas.Slice.Eq.{bytes_eq-Decides}
 use Rattle.pip_search.specs.Certificates.{Portion, Stop}
@@ -13,8 +13,8 @@ use Rattle.pip_search.specs.Keys.{labels}
 use Rattle.pip_search.specs.Naming.{AreDistinct}
 use Rattle.pip_search.specs.Parts.{HasMoved, IsWalked, IsWalkedOn, portion_of, stop_at, stops}
 use Rattle.pip_search.specs.Portions.{AreAllMoves, AreLed, AreMovesAt, IsPortionOf, Move, SayOnePortion, Walk}
-use Rattle.pip_search.specs.Portions.{asked_with, is_next_own, is_told, keys_with, walk_at, walk_on, walk_rows}
-use Rattle.pip_search.specs.Portions.{walk_start, with_move, with_text}
+use Rattle.pip_search.specs.Portions.{asked_with, is_next_own, is_told, keys_with, walk_on, walk_rows}
+use Rattle.pip_search.specs.Portions.{walk_start, with_text}
 use Rattle.pip_search.specs.Summary.{HasOneKey}
 use Rattle.pip_search.specs.Systems.{IsKey, LeadsAlong, LeadsOn, Model, after_way}
 use Rattle.pip_search.specs.declared.found.Found.{Found}
@@ -31,7 +31,7 @@ any_at [] i t e = absurd cc
 any_at (u ∷ ts) zero t e =
     let same : u ≡ t = cc in
     let yes : bytes_eq u t ≡ true = (bytes_eq-Decides u t).1 same in
-    ap (λ b. b || list_any (λ u. bytes_eq u t) ts) yes
+    rw yes
 any_at (u ∷ ts) (suc i) t e = or_right (bytes_eq u t) _ (any_at ts i t e)
   where
     or_right : (a b : Bool) → b ≡ true → (a || b) ≡ true
@@ -45,25 +45,25 @@ any_none (u ∷ ts) t h = by_test (bytes_eq u t) refl (any_none ts t (λ j. h (s
   where
     by_test : (b : Bool) → bytes_eq u t ≡ b → list_any (λ u. bytes_eq u t) ts ≡ false
         → (b || list_any (λ u. bytes_eq u t) ts) ≡ false
-    by_test true is rest = absurd (h 0 (ap Some ((bytes_eq-Decides u t).0 is)))
+    by_test true is rest = absurd (h 0 (rw ((bytes_eq-Decides u t).0 is)))
     by_test false is rest = rest
 
 some_length : (xs : List ℕ) → xs ≢ [] → (length xs == 0) ≡ false
 some_length [] h = absurd (h refl)
-some_length (x ∷ xs) h = ne_eqb (suc (length xs)) 0 (λ e. omega (arith, e))
+some_length (x ∷ xs) h = ne_eqb (suc (length xs)) 0 (λ e. omega arith)
 
 -- labels with what was told are those with the text
 told_texts : (fs gs : List Found) (label : List ℕ) (at choice depth : ℕ) → Told fs gs label at choice depth
     → AreDistinct (labels gs) → labels gs ≡ with_text (labels fs) label
 told_texts fs gs label at choice depth (inl keeps) distinct =
-    ap labels keeps.same ∙ sym (ap (λ b. if b then labels fs else labels fs ++ label ∷ []) yes)
+    ap labels keeps.same ∙ sym (rw yes)
   where
     yes : is_told (labels fs) label ≡ true
     yes = elim (keeps.has) [
-      | inl none ↦ ap (λ t. is_told (labels fs) t) none
+      | inl none ↦ rw none
       | inr has ↦
           let there : slice_get (labels fs) has.place ≡ Some label =
-          map_at (λ (f : Found). f.label.items) fs has.place has.at.found has.at.at ∙ ap Some has.at.same in
+          rw (map_at (λ (f : Found). f.label.items) fs has.place has.at.found has.at.at, has.at.same) in
           either (length label == 0) (any_at (labels fs) has.place label there)
     ]
       where
@@ -71,25 +71,20 @@ told_texts fs gs label at choice depth (inl keeps) distinct =
         either true h = refl
         either false h = h
 told_texts fs gs label at choice depth (inr adds) distinct =
-    all ∙ sym (ap (λ b. if b then labels fs else labels fs ++ label ∷ []) no)
+    all ∙ sym (rw no)
   where
     all : labels gs ≡ labels fs ++ label ∷ []
-    all = ap labels adds.whole ∙ (map-append (λ (f : Found). f.label.items) fs (adds.found ∷ [])
-        ∙ ap (λ l. labels fs ++ l ∷ []) adds.label_is)
+    all = rw (adds.whole, map-append (λ (f : Found). f.label.items) fs (adds.found ∷ []), adds.label_is)
 
     absent : (j : ℕ) → slice_get (labels fs) j ≢ Some label
     absent j e =
-        let before : slice_get (labels gs) j ≡ Some label = ap (λ ls. slice_get ls j) all
-        ∙ get-more (labels fs) (label ∷ []) j label e in
+        let before : slice_get (labels gs) j ≡ Some label = rw (all, get-more (labels fs) (label ∷ []) j label e) in
         let last : slice_get (labels gs) (length (labels fs)) ≡ Some label =
-        ap (λ ls. slice_get ls (length (labels fs))) all ∙ get-new (labels fs) label in
-        let same = distinct j (length (labels fs)) label before last in
-        let low = get-below (labels fs) j label e in
-        omega (arith, same, low)
+        rw (all, get-new (labels fs) label) in
+        omega (arith, distinct j (length (labels fs)) label before last, get-below (labels fs) j label e)
 
     no : is_told (labels fs) label ≡ false
-    no = ap (λ b. b || list_any (λ u. bytes_eq u label) (labels fs)) (some_length label adds.some)
-        ∙ any_none (labels fs) label absent
+    no = rw (some_length label adds.some, any_none (labels fs) label absent)
 
 -- ---- a choice
 
@@ -151,7 +146,7 @@ module _ (m : Model) (marks : List ℕ) (from : Stop) where
         are = w.are;
         count = w.count;
         stop = x;
-        here = ap (λ (q : Portion). slice_get q.keys i) (sym w.is) ∙ there;
+        here = rw (← w.is, there);
         row = [];
         led = tt;
         made = refl;
@@ -177,11 +172,10 @@ module _ (m : Model) (marks : List ℕ) (from : Stop) where
         stop = w.stop;
         here = w.here;
         row = h.move ∷ w.row;
-        led = (subst (λ n. LeadsOn m w.stop.key n h.move.next h.move.shown) (sym w.made) h.leads, w.led);
-        made = omega (arith, count);
-        stays = ap (λ (r : Portion). slice_get r.keys i) h.is ∙ stays_at own p.keys _ i w.stop w.stays;
-        is = h.is ∙ (ap (λ r. with_move r w.stop own h.move) w.is
-            ∙ ap (λ b. with_move k.portion w.stop b h.move) by.0);
+        led = (rw w.made h.leads, w.led);
+        made = omega arith;
+        stays = rw (h.is, stays_at own p.keys _ i w.stop w.stays);
+        is = rw (h.is, w.is, by.0);
         place = by.1;
       }
 
@@ -192,30 +186,30 @@ module _ (m : Model) (marks : List ℕ) (from : Stop) where
   walked_row p i c at w all =
       let k = walk_rows marks from w.rows in
       let here : slice_get k.portion.keys (length w.rows) ≡ Some w.stop =
-      ap (slice_get k.portion.keys) w.count ∙ w.here in
+      rw (w.count, w.here) in
       let same : walk_rows marks from (w.row ∷ w.rows) ≡ walk_on marks w.stop k w.row =
-      ap (λ o. walk_at marks o k w.row) here in
+      rw here in
       let count = w.count in
       record {
         rows = w.row ∷ w.rows;
-        are = (record { stop = w.stop; at = here; led = w.led; all = w.made ∙ all }, w.are);
-        count = omega (arith, count);
-        is = w.is ∙ ap (λ (r : Walk). r.portion) (sym same);
-        place = w.place ∙ ap (λ (r : Walk). min r.used (length marks)) (sym same);
+        are = (record { stop = w.stop; at = here; led = w.led; all = cc (w.made) }, w.are);
+        count = omega arith;
+        is = rw (w.is, ← same);
+        place = rw (w.place, ← same);
       }
 
 -- a part with one key, and no choice made
 pub first_portion : (p : Part) (x : Stop) → stops p.keys.items ≡ x ∷ [] → stops p.asked.items ≡ []
     → p.found.items ≡ [] → portion_of p ≡ (walk_start x).portion
 first_portion p x keys asked none =
-    let texts : labels p.found.items ≡ [] = ap labels none in
+    let texts : labels p.found.items ≡ [] = rw none in
     λ j. record { keys = keys j; asked = asked j; labels = texts j }
 
 pub portion_said : (m : Model) (start way marks first : List ℕ) (p : Portion) (i at : ℕ)
     → LeadsAlong m start way first → IsWalked m marks (stop_at first (length way)) p i at → i ≡ length p.keys
     → IsPortionOf m start way marks p
 portion_said m start way marks first p i at leads w all =
-    record { first = first; leads = leads; rows = w.rows; are = w.are; all = w.count ∙ all; is = w.is }
+    record { first = first; leads = leads; rows = w.rows; are = w.are; all = cc (w.count); is = w.is }
 
 -- ---- one part
 
@@ -227,7 +221,7 @@ module _ (m : Model) (one : HasOneKey m) (marks : List ℕ) (first : Stop) (begi
   with_key false xs y all is = all
   with_key true xs y all is = λ j x e. elim (get-back xs y j x e) [
     | inl old ↦ all j x old
-    | inr (last, new) ↦ subst (λ (z : Stop). IsKey m z.key) (sym new) is
+    | inr (last, new) ↦ rw new is
   ]
 
   row_keys : (x : Stop) (w : Walk) (vs : List Move) → IsKey m x.key → AreLed m x.key vs → AllKeys w.portion.keys
@@ -246,17 +240,16 @@ module _ (m : Model) (one : HasOneKey m) (marks : List ℕ) (first : Stop) (begi
       let k = walk_rows marks first rows in
       let before = all_keys rows are.1 in
       let r = are.0 in
-      subst (λ o. AllKeys (walk_at marks o k row).portion.keys) (sym r.at)
-      (row_keys r.stop k row (before (length rows) r.stop r.at) r.led before)
+      rw r.at (row_keys r.stop k row (before (length rows) r.stop r.at) r.led before)
 
   same_row : (key : List ℕ) → IsKey m key → (vs us : List Move) → length vs ≡ length us → AreLed m key vs
       → AreLed m key us → vs ≡ us
   unfolding AreLed
   same_row key is [] [] count a b = refl
-  same_row key is [] (u ∷ us) count a b = absurd (omega (arith, count))
-  same_row key is (v ∷ vs) [] count a b = absurd (omega (arith, count))
+  same_row key is [] (u ∷ us) count a b = absurd (omega arith)
+  same_row key is (v ∷ vs) [] count a b = absurd (omega arith)
   same_row key (s, k) (v ∷ vs) (u ∷ us) count a b =
-      let few : length vs ≡ length us = omega (arith, count) in
+      let few : length vs ≡ length us = omega arith in
       let rest = same_row key (s, k) vs us few a.1 b.1 in
       let x = a.0 s k in
       let y = subst (λ n. m.stands u.next (m.act s n) × (u.shown ≡ m.label s n)) (sym few) (b.0 s k) in
@@ -268,16 +261,16 @@ module _ (m : Model) (one : HasOneKey m) (marks : List ℕ) (first : Stop) (begi
       → AreAllMoves m marks first qs → rs ≡ qs
   unfolding AreAllMoves
   same_rows [] [] count a b = refl
-  same_rows [] (q ∷ qs) count a b = absurd (omega (arith, count))
-  same_rows (r ∷ rs) [] count a b = absurd (omega (arith, count))
+  same_rows [] (q ∷ qs) count a b = absurd (omega arith)
+  same_rows (r ∷ rs) [] count a b = absurd (omega arith)
   same_rows (r ∷ rs) (q ∷ qs) count a b =
-      let rest = same_rows rs qs (omega (arith, count)) a.1 b.1 in
+      let rest = same_rows rs qs (omega arith) a.1 b.1 in
       let x = a.0 in
       let y = subst (λ ts. AreMovesAt m (walk_rows marks first ts).portion.keys (length ts) q) (sym rest) b.0 in
       let ks = (walk_rows marks first rs).portion.keys in
       let same : x.stop ≡ y.stop = at-same ks (length rs) x.stop y.stop x.at y.at in
       let row : r ≡ q = same_row x.stop.key (all_keys rs a.1 (length rs) x.stop x.at) r q (x.all ∙ sym y.all) x.led
-      (subst (λ (z : Stop). AreLed m z.key q) (sym same) y.led) in
+      (rw same y.led) in
       λ j. row j ∷ rest j
 
   abbrev IsWhole : List (List Move) → Type 0
@@ -286,14 +279,13 @@ module _ (m : Model) (one : HasOneKey m) (marks : List ℕ) (first : Stop) (begi
   no_longer : (rs qs : List (List Move)) → length rs < length qs → AreAllMoves m marks first rs
       → AreAllMoves m marks first qs → IsWhole rs → ⊥
   unfolding AreAllMoves
-  no_longer rs [] more a b whole = omega (arith, more)
+  no_longer rs [] more a b whole = omega arith
   no_longer rs (q ∷ qs) more a b whole = elim (cases_lt (length rs) (length qs)) [
     | inl less ↦ no_longer rs qs less a b.1 whole
     | inr most ↦
-        let same : rs ≡ qs = same_rows rs qs (omega (arith, more, most)) a b.1 in
+        let same : rs ≡ qs = same_rows rs qs (omega arith) a b.1 in
         let x = subst (λ ts. AreMovesAt m (walk_rows marks first ts).portion.keys (length ts) q) (sym same) b.0 in
-        let low = get-below (walk_rows marks first rs).portion.keys (length rs) x.stop x.at in
-        omega (arith, low, whole)
+        omega (arith, get-below (walk_rows marks first rs).portion.keys (length rs) x.stop x.at)
   ]
 
   one_walk : (rs qs : List (List Move)) → AreAllMoves m marks first rs → AreAllMoves m marks first qs → IsWhole rs
@@ -308,9 +300,8 @@ pub say_one_portion : (m : Model) → SayOnePortion m
 say_one_portion m one start way marks p q (s, k) a b =
     let same : a.first ≡ b.first = one a.first b.first (after_way m s way) (a.leads s k) (b.leads s k) in
     let from : Stop = stop_at a.first (length way) in
-    let is : q ≡ (walk_rows marks from b.rows).portion = b.is
-    ∙ ap (λ f. (walk_rows marks (stop_at f (length way)) b.rows).portion) (sym same) in
+    let is : q ≡ (walk_rows marks from b.rows).portion = rw (b.is, ← same) in
     let rows : a.rows ≡ b.rows = one_walk m one marks from (after_way m s way, a.leads s k) a.rows b.rows a.are
-    (subst (λ f. AreAllMoves m marks (stop_at f (length way)) b.rows) (sym same) b.are)
-    (a.all ∙ ap (λ (r : Portion). length r.keys) a.is) (b.all ∙ ap (λ (r : Portion). length r.keys) is) in
-    a.is ∙ (ap (λ rs. (walk_rows marks from rs).portion) rows ∙ sym is)
+    (rw same b.are)
+    (rw (a.all, a.is)) (rw (b.all, is)) in
+    rw (a.is, rows, ← is)

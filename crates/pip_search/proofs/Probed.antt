@@ -3,7 +3,7 @@ use Rattle.std.proofs.Common.{◌≡◌, ◌≢◌, ℕ, ◌+◌, ◌<◌, ◌�
 use Rattle.std.proofs.Common.{◌∙◌, arith, get_or}
 use Rattle.std.proofs.lemmas.Bool.{cases_eq, cases_lt}
 use Rattle.pip_search.specs.Cells.{IsPlaced, IsOnTheWay, home, tag}
-use Rattle.pip_search.specs.Naming.{AreNamed, AreUnlike, IsAbsent, IsUnlike, hash_of}
+use Rattle.pip_search.specs.Naming.{AreNamed, AreUnlike, IsAbsent, hash_of}
 use Rattle.pip_search.specs.declared.hash_table.HashTable.{HashTable}
 use Rattle.pip_search.proofs.Places.{get-below}
 
@@ -18,15 +18,15 @@ module _ (names : List (List ℕ)) (x : HashTable) (name : List ℕ) (hash from 
   placed_at j e =
       let low = get-below names j name e in
       let count = n.count in
-      subst (λ k. IsPlaced cells k hash j) (sym counted) (subst (λ k. IsPlaced cells (length cells) k j)
-      (n.hashed j name e ∙ sym is) (n.filled.have.placed j (omega arith)))
+      rw counted (subst (λ k. IsPlaced cells (length cells) k j) (n.hashed j name e ∙ sym is)
+      (n.filled.have.placed j (omega arith)))
 
   -- what it has
   cell_at : (j : ℕ) (p : IsPlaced cells size hash j) → get_or cells p.cell 0 ≡ own + j + 1
-  cell_at j p = p.there ∙ ap (λ t. t + j + 1) (sym tagged)
+  cell_at j p = rw (p.there, ← tagged)
 
   passed : (j c : ℕ) (p : IsPlaced cells size hash j) → c < size → IsOnTheWay from p.cell c → get_or cells c 0 ≢ 0
-  passed j c p low way = p.full c low (subst (λ h. IsOnTheWay h p.cell c) begins way)
+  passed j c p low way = p.full c low (rw (← begins) way)
 
   -- an empty cell was met at or after the home
   pub absent_late : (c : ℕ) → from ≤ c → c < size → get_or cells c 0 ≡ 0
@@ -39,7 +39,7 @@ module _ (names : List (List ℕ)) (x : HashTable) (name : List ℕ) (hash from 
         | inr most ↦ elim (cases_lt p.cell c) [
           | inl less ↦ u.unlike p.cell (omega arith) less j there e
           | inr far ↦ elim (cases_eq p.cell c) [
-            | inl same ↦ let here = ap (λ k. get_or cells k 0) same in absurd (omega arith)
+            | inl same ↦ absurd (omega (arith, ap (λ k. get_or cells k 0) same))
             | inr other ↦ passed j c p low (inl ((late, omega arith))) empty
           ]
         ]
@@ -57,7 +57,7 @@ module _ (names : List (List ℕ)) (x : HashTable) (name : List ℕ) (hash from 
         | inl before ↦ elim (cases_lt p.cell c) [
           | inl less ↦ v.unlike p.cell (omega arith) less j there e
           | inr far ↦ elim (cases_eq p.cell c) [
-            | inl same ↦ let here = ap (λ k. get_or cells k 0) same in absurd (omega arith)
+            | inl same ↦ absurd (omega (arith, ap (λ k. get_or cells k 0) same))
             | inr other ↦ passed j c p (omega arith) (inr ((before, inr (omega arith)))) empty
           ]
         ]

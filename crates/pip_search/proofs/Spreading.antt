@@ -1,11 +1,11 @@
 -- Marks that are spread against the edges of a graph.
 use Rattle.std.proofs.Common.{◌≡◌, ◌≢◌, ℕ, zero, suc, ◌+◌, ◌*◌, ◌/◌, ◌%◌, ◌<◌, ◌≤◌, ◌⊎◌, inl, inr, Bool, true, false}
-use Rattle.std.proofs.Common.{List, [], ◌∷◌, ◌++◌, length, Some, slice_get, slice_set, slice_index, refl, ap, sym}
+use Rattle.std.proofs.Common.{List, [], ◌∷◌, ◌++◌, length, Some, slice_get, slice_set, slice_index, refl}
 use Rattle.std.proofs.Common.{subst, ◌∙◌, arith, get_or}
 use Rattle.std.proofs.lemmas.Bool.{cases_eq, cases_lt}
 use Rattle.pip_search.specs.Filing.{IsFiled, last_below}
 use Rattle.pip_search.specs.Graphs.{AreFollowed, IsFollowedTo, IsListed, IsMarked, IsSpreading, LeadsToMarked}
-use Rattle.pip_search.specs.Graphs.{marks_left, place_after}
+use Rattle.pip_search.specs.Graphs.{marks_left}
 use Rattle.pip_search.specs.declared.index.Index.{Index}
 use Rattle.pip_search.proofs.Chains.{last_gap, last_le, last_rest}
 use Rattle.pip_search.proofs.Places.{get-back, get-below, get-more, get-new}
@@ -18,7 +18,7 @@ unfolding marks_left
 unmarked_set [] j e = absurd (cc)
 unmarked_set (false ∷ bs) zero e = refl
 unmarked_set (true ∷ bs) zero e = absurd (cc)
-unmarked_set (false ∷ bs) (suc j) e = ap suc (unmarked_set bs j e)
+unmarked_set (false ∷ bs) (suc j) e = rw (unmarked_set bs j e)
 unmarked_set (true ∷ bs) (suc j) e = unmarked_set bs j e
 
 pub set_marked : (bs : List Bool) (j : ℕ) → j < length bs → IsMarked (slice_set bs j true) j
@@ -38,7 +38,7 @@ set_back [] j k e = absurd (cc)
 set_back (b ∷ bs) zero zero e = inr refl
 set_back (b ∷ bs) zero (suc k) e = inl e
 set_back (b ∷ bs) (suc j) zero e = inl e
-set_back (b ∷ bs) (suc j) (suc k) e = elim (set_back bs j k e) [ inl h ↦ inl h | inr h ↦ inr (ap suc h) ]
+set_back (b ∷ bs) (suc j) (suc k) e = elim (set_back bs j k e) [ inl h ↦ inl h | inr h ↦ inr (rw h) ]
 
 module _ (targets : List ℕ) (width : ℕ) (first marks : List Bool) (queue : List ℕ) (i j : ℕ)
     (s : IsSpreading targets width first marks queue i) (low : j < length marks)
@@ -49,36 +49,36 @@ module _ (targets : List ℕ) (width : ℕ) (first marks : List Bool) (queue : L
         record { number = h.number; at = get-more queue (j ∷ []) h.number k h.at }
     | inr new ↦ record {
       number = length queue;
-      at = subst (λ x. slice_get (queue ++ j ∷ []) (length queue) ≡ Some x) (sym new) (get-new queue j);
+      at = rw new (get-new queue j);
     }
   ]
 
   listed : (p k : ℕ) → slice_get (queue ++ j ∷ []) p ≡ Some k → IsMarked (slice_set marks j true) k
   listed p k e = elim (get-back queue j p k e) [
     | inl old ↦ set_keeps marks j k (s.marked p k old)
-    | inr new ↦ subst (IsMarked (slice_set marks j true)) (sym new.1) (set_marked marks j low)
+    | inr new ↦ rw new.1 (set_marked marks j low)
   ]
 
   followed : (p k : ℕ) → p < i → slice_get (queue ++ j ∷ []) p ≡ Some k
       → AreFollowed targets width (slice_set marks j true) k
   followed p k l e = elim (get-back queue j p k e) [
     | inl old ↦ λ n at. set_keeps marks j (n / width) (s.done p k l old n at)
-    | inr new ↦ absurd (let w = s.within in let q = new.0 in omega arith)
+    | inr new ↦ absurd (omega arith)
   ]
 
   sound : (k : ℕ) → IsMarked (slice_set marks j true) k → LeadsToMarked targets width first k
   sound k e = elim (set_back marks j k e) [
     | inl old ↦ s.sound k old
-    | inr new ↦ subst (LeadsToMarked targets width first) (sym new) leads
+    | inr new ↦ rw new leads
   ]
 
   longer : (xs : List ℕ) (x : ℕ) → length xs ≤ length (xs ++ x ∷ [])
   longer [] x = omega arith
-  longer (y ∷ xs) x = let h = longer xs x in omega arith
+  longer (y ∷ xs) x = omega (arith, longer xs x)
 
   pub marked_more : IsSpreading targets width first (slice_set marks j true) (queue ++ j ∷ []) i
   marked_more = record {
-    within = let w = s.within in let l = longer queue j in omega arith;
+    within = omega (arith, longer queue j);
     queued = queued;
     marked = listed;
     done = followed;
@@ -94,7 +94,7 @@ module _ (x : Index) (width k : ℕ) (f : IsFiled x) where
 
   -- an edge whose end leaves another rest isn't one to k
   other : (e : ℕ) → get_or x.hashes.items e 0 % length x.heads.items ≢ rest → slice_get x.hashes.items e ≢ Some k
-  other e ne at = ne (ap (λ h. h % length x.heads.items) (sym (read x.hashes.items e k at)))
+  other e ne at = ne (rw (← read x.hashes.items e k at))
     where
       read : (xs : List ℕ) (i v : ℕ) → slice_get xs i ≡ Some v → v ≡ get_or xs i 0
       read [] i v e = absurd (cc)
@@ -105,11 +105,11 @@ module _ (x : Index) (width k : ℕ) (f : IsFiled x) where
   walk_begins marks at head =
       let some = f.some in
       let low : rest < length x.heads.items = omega arith in
-      let last : at ≡ last_below x.hashes.items (length x.heads.items) rest (length x.hashes.items) = head
-      ∙ f.linked.heads_are rest low in
+      let last : at ≡ last_below x.hashes.items (length x.heads.items) rest (length x.hashes.items) = cc
+      (f.linked.heads_are rest low) in
       record {
-        within = let h = last_le x.hashes.items (length x.heads.items) rest (length x.hashes.items) in omega arith;
-        rest = λ p e. last_rest x.hashes.items (length x.heads.items) rest (length x.hashes.items) p (sym last ∙ e);
+        within = omega (arith, last_le x.hashes.items (length x.heads.items) rest (length x.hashes.items));
+        rest = λ p e. last_rest x.hashes.items (length x.heads.items) rest (length x.hashes.items) p (cc);
         walked = λ e a at. let b : e < length x.hashes.items = get-below x.hashes.items e k at in
             absurd (other e (last_gap x.hashes.items (length x.heads.items) rest (length x.hashes.items) e (omega arith)
             b) at);
@@ -123,19 +123,18 @@ module _ (x : Index) (width k : ℕ) (f : IsFiled x) where
       let within = w.within in
       let count = f.count in
       let is : get_or x.hashes.items p 0 % length x.heads.items ≡ rest = w.rest p here in
-      let last : next ≡ last_below x.hashes.items (length x.heads.items) rest p = is_next
-      ∙ f.linked.chains_are p (omega arith) ∙ ap (λ r. last_below x.hashes.items (length x.heads.items) r p) is in
+      let last : next ≡ last_below x.hashes.items (length x.heads.items) rest p = rw
+      (is_next, f.linked.chains_are p (omega arith), is) in
       let low : last_below x.hashes.items (length x.heads.items) rest p ≤ p =
       last_le x.hashes.items (length x.heads.items) rest p in
       record {
         within = omega arith;
-        rest = λ q e. last_rest x.hashes.items (length x.heads.items) rest p q (sym last ∙ e);
+        rest = λ q e. last_rest x.hashes.items (length x.heads.items) rest p q (cc);
         walked = λ e a there. elim (cases_lt e p) [
           | inl less ↦ absurd (other e (last_gap x.hashes.items (length x.heads.items) rest p e (omega arith) less)
               there)
           | inr most ↦ elim (cases_eq e p) [
-            | inl same ↦ subst (λ n. IsMarked more (n / width)) (sym same)
-                (own (subst (λ n. slice_get x.hashes.items n ≡ Some k) same there))
+            | inl same ↦ rw same (own (subst (λ n. slice_get x.hashes.items n ≡ Some k) same there))
             | inr far ↦ keeps (e / width) (w.walked e (omega arith) there)
           ]
         ];
@@ -149,20 +148,18 @@ module _ (x : Index) (width k : ℕ) (f : IsFiled x) where
       let count = f.count in
       let last : next ≡ last_below x.hashes.items (length x.heads.items)
       (get_or x.hashes.items p 0 % length x.heads.items) p = is_next ∙ f.linked.chains_are p (omega arith) in
-      let low = last_le x.hashes.items (length x.heads.items) (get_or x.hashes.items p 0 % length x.heads.items) p in
-      omega arith
+      omega (arith, last_le x.hashes.items (length x.heads.items) (get_or x.hashes.items p 0 % length x.heads.items) p)
 
 -- an edge to a place from which edges lead to a marked one
 pub one_edge : (targets : List ℕ) (width : ℕ) (first : List Bool) (e k : ℕ) → 0 < width → slice_get targets e ≡ Some k
     → LeadsToMarked targets width first k → LeadsToMarked targets width first (e / width)
 one_edge targets width first e k some at leads =
     let whole : e / width * width + e % width ≡ e = omega arith in
-    let is : slice_index targets (e / width * width + e % width) ≡ k = ap (slice_index targets) whole
-    ∙ read targets e k at in
+    let is : slice_index targets (e / width * width + e % width) ≡ k = rw (whole, read targets e k at) in
     record {
       edges = (e % width) ∷ leads.edges;
       are = (omega arith, leads.are);
-      marked = subst (λ j. IsMarked first (place_after targets width j leads.edges)) (sym is) leads.marked;
+      marked = rw is leads.marked;
     }
   where
     read : (xs : List ℕ) (i v : ℕ) → slice_get xs i ≡ Some v → slice_index xs i ≡ v
@@ -181,8 +178,8 @@ followed_one targets width first marks queue i k s at now = record {
   done = λ p j low e. elim (cases_lt p i) [
     | inl less ↦ s.done p j less e
     | inr most ↦ let is : p ≡ i = omega arith in
-        let same : j ≡ k = some_same (sym e ∙ ap (slice_get queue) is ∙ at) in
-        subst (AreFollowed targets width marks) (sym same) now
+        let same : j ≡ k = some_same (rw (← e, is, at)) in
+        rw same now
   ];
   sound = s.sound;
   keeps = s.keeps;

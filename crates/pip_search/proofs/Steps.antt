@@ -1,6 +1,6 @@
 -- Visits with their keys, and without them.
 use Rattle.std.proofs.Common.{◌≡◌, ℕ, zero, suc, List, [], ◌∷◌, ◌++◌, length, Some, slice_get}
-use Rattle.std.proofs.Common.{refl, ap, sym, ◌∙◌, arith}
+use Rattle.std.proofs.Common.{refl, sym, ◌∙◌, arith}
 use Rattle.std.proofs.lemmas.List.{map-append}
 use Rattle.pip_search.specs.Keys.{HaveKeys, IsAtHand, Keyed, key_bytes, keyed_visit, keyed_visits, step_of, steps_of}
 use Rattle.pip_search.specs.Keys.{visits_of}
@@ -16,14 +16,14 @@ unfolding keyed_visits
 steps_are [] [] count = refl
 steps_are [] (v ∷ vs) count = absurd (omega arith)
 steps_are (key ∷ ks) [] count = absurd (omega arith)
-steps_are (key ∷ ks) (v ∷ vs) count = ap (λ ws. v ∷ ws) (steps_are ks vs (omega arith))
+steps_are (key ∷ ks) (v ∷ vs) count = rw (steps_are ks vs (omega arith))
 
 pub bytes_are : (ks : List (List ℕ)) (vs : List Visit) → length ks ≡ length vs → key_bytes (keyed_visits ks vs) ≡ ks
 unfolding keyed_visits
 bytes_are [] [] count = refl
 bytes_are [] (v ∷ vs) count = absurd (omega arith)
 bytes_are (key ∷ ks) [] count = absurd (omega arith)
-bytes_are (key ∷ ks) (v ∷ vs) count = ap (λ ws. key ∷ ws) (bytes_are ks vs (omega arith))
+bytes_are (key ∷ ks) (v ∷ vs) count = rw (bytes_are ks vs (omega arith))
 
 pub keyed_count : (ks : List (List ℕ)) (vs : List Visit) → length ks ≡ length vs
     → length (keyed_visits ks vs) ≡ length vs
@@ -31,7 +31,7 @@ unfolding keyed_visits
 keyed_count [] [] count = refl
 keyed_count [] (v ∷ vs) count = absurd (omega arith)
 keyed_count (key ∷ ks) [] count = absurd (omega arith)
-keyed_count (key ∷ ks) (v ∷ vs) count = ap suc (keyed_count ks vs (omega arith))
+keyed_count (key ∷ ks) (v ∷ vs) count = rw (keyed_count ks vs (omega arith))
 
 pub keyed_at : (ks : List (List ℕ)) (vs : List Visit) (i : ℕ) (v : Visit) → length ks ≡ length vs
     → slice_get vs i ≡ Some v → (key : List ℕ) × (slice_get (keyed_visits ks vs) i ≡ Some (keyed_visit key v))
@@ -40,7 +40,7 @@ keyed_at [] [] i v count at = absurd (cc)
 keyed_at [] (w ∷ vs) i v count at = absurd (omega arith)
 keyed_at (key ∷ ks) [] i v count at = absurd (omega arith)
 keyed_at (key ∷ ks) (w ∷ vs) zero v count at = let same : w ≡ v = cc in
-    (key, ap (λ y. Some (keyed_visit key y)) same)
+    (key, rw same)
 keyed_at (key ∷ ks) (w ∷ vs) (suc i) v count at = keyed_at ks vs i v (omega arith) at
 
 -- the key of a visit is the one at its place
@@ -49,7 +49,7 @@ pub own_key : (ks : List (List ℕ)) (vs : List Visit) (i : ℕ) (v : Keyed) →
 unfolding keyed_visits
 own_key [] vs i v at = absurd (cc)
 own_key (key ∷ ks) [] i v at = absurd (cc)
-own_key (key ∷ ks) (w ∷ vs) zero v at = let same : keyed_visit key w ≡ v = cc in ap (λ y. Some y.key) same
+own_key (key ∷ ks) (w ∷ vs) zero v at = let same : keyed_visit key w ≡ v = cc in cc
 own_key (key ∷ ks) (w ∷ vs) (suc i) v at = own_key ks vs i v at
 
 -- one visit more
@@ -59,12 +59,12 @@ unfolding keyed_visits
 keyed_more [] [] key v count = refl
 keyed_more [] (w ∷ vs) key v count = absurd (omega arith)
 keyed_more (k ∷ ks) [] key v count = absurd (omega arith)
-keyed_more (k ∷ ks) (w ∷ vs) key v count = ap (λ ws. keyed_visit k w ∷ ws) (keyed_more ks vs key v (omega arith))
+keyed_more (k ∷ ks) (w ∷ vs) key v count = rw (keyed_more ks vs key v (omega arith))
 
 pub keyed_one : (ks : List (List ℕ)) (vs : List Visit) (key : List ℕ) (v : Visit) → ks ≡ key ∷ [] → vs ≡ v ∷ []
     → keyed_visits ks vs ≡ keyed_visit key v ∷ []
 unfolding keyed_visits
-keyed_one ks vs key v one only = ap (λ zs. keyed_visits zs vs) one ∙ ap (λ ws. keyed_visits (key ∷ []) ws) only
+keyed_one ks vs key v one only = rw (one, only)
 
 pub steps_more : (vs : List Keyed) (v : Keyed) → steps_of (vs ++ v ∷ []) ≡ steps_of vs ++ step_of v ∷ []
 steps_more vs v = map-append step_of vs (v ∷ [])
@@ -74,8 +74,7 @@ steps_more vs v = map-append step_of vs (v ∷ [])
 -- words that were unpacked from the bytes at a place are those of the visit there
 pub at_hand : (s : Search) (i : ℕ) (bytes words : List ℕ) → slice_get (keys_in s.store) i ≡ Some bytes
     → words ≡ unpacked_key bytes → IsAtHand (visits_of s) i words
-at_hand s i bytes words at is v there = is
-    ∙ ap unpacked_key (some_same (sym at ∙ own_key (keys_in s.store) s.visits.items i v there))
+at_hand s i bytes words at is v there = rw (is, some_same (sym at ∙ own_key (keys_in s.store) s.visits.items i v there))
   where
     some_same : {x y : List ℕ} → Some x ≡ Some y → x ≡ y
     some_same e = cc

@@ -1,6 +1,6 @@
 -- Keys that are kept one after another.
 use Rattle.std.proofs.Common.{◌≡◌, ℕ, zero, suc, ◌+◌, ◌-◌, ◌*◌, ◌/◌, ◌<◌, ◌≤◌, inl, inr, List, [], ◌∷◌, ◌++◌, length}
-use Rattle.std.proofs.Common.{Some, slice_get, refl, ap, ap₂, sym, subst, ◌∙◌, arith, get_or, take, drop, length-append}
+use Rattle.std.proofs.Common.{Some, slice_get, refl, ap, ap₂, sym, subst, ◌∙◌, arith, get_or, drop, length-append}
 use Rattle.std.specs.Prelude.{slice_range}
 use Rattle.std.proofs.lemmas.Bool.{cases_lt}
 use Rattle.std.proofs.lemmas.List.{drop-append-le, length-drop, take-append-le}
@@ -16,7 +16,7 @@ none_listed start bytes = refl
 pub listed_count : (start : ℕ) (bytes ends : List ℕ) → length (listed_from start bytes ends) ≡ length ends
 unfolding listed_from
 listed_count start bytes [] = refl
-listed_count start bytes (end ∷ ends) = ap suc (listed_count end bytes ends)
+listed_count start bytes (end ∷ ends) = rw (listed_count end bytes ends)
 
 -- ---- the key at a place
 
@@ -37,7 +37,7 @@ end_rises start (end ∷ ends) last (suc i) h low = end_rises end ends last i h.
 
 start_low : (start : ℕ) (ends : List ℕ) (last : ℕ) → AreEnds start ends last → start ≤ last
 start_low start [] last h = omega arith
-start_low start (end ∷ ends) last h = let a = h.0 in let b = start_low end ends last h.1 in omega arith
+start_low start (end ∷ ends) last h = omega (arith, start_low end ends last h.1)
 
 pub end_low : (start : ℕ) (ends : List ℕ) (last i : ℕ) → AreEnds start ends last → i < length ends
     → get_or ends i 0 ≤ last
@@ -51,26 +51,25 @@ range_more : (bytes more : List ℕ) (start end : ℕ) → start ≤ end → end
     → slice_range (bytes ++ more) start end ≡ slice_range bytes start end
 range_more bytes more start end rise low =
     let rest : length (drop start bytes) ≡ length bytes - start = length-drop start bytes in
-    ap (take (end - start)) (drop-append-le start bytes more (omega arith))
-    ∙ take-append-le (end - start) (drop start bytes) more (omega arith)
+    rw (
+      drop-append-le start bytes more (omega arith),
+      take-append-le (end - start) (drop start bytes) more
+          (omega arith),
+    )
 
 range_new : (bytes more : List ℕ) → slice_range (bytes ++ more) (length bytes) (length bytes + length more) ≡ more
 range_new bytes more =
     let count : length bytes + length more - length bytes ≡ length more = omega arith in
-    ap (take (length bytes + length more - length bytes)) (drop-append_seam bytes more)
-    ∙ ap (λ n. take n more) count ∙ take-length more
+    rw (drop-append_seam bytes more, count, take-length more)
 
 pub listed_more : (start : ℕ) (bytes ends more : List ℕ) → AreEnds start ends (length bytes)
     → listed_from start (bytes ++ more) (ends ++ (length bytes + length more) ∷ [])
     ≡ listed_from start bytes ends ++ more ∷ []
 unfolding listed_from
-listed_more start bytes [] more h = ap (λ x. x ∷ [])
-    (ap (λ n. slice_range (bytes ++ more) n (length bytes + length more)) h ∙ range_new bytes more)
+listed_more start bytes [] more h = rw (h, range_new bytes more)
 listed_more start bytes (end ∷ ends) more h =
     let low = start_low end ends (length bytes) h.1 in
-    ap (λ x. x ∷ listed_from end (bytes ++ more) (ends ++ (length bytes + length more) ∷ []))
-    (range_more bytes more start end h.0 low)
-    ∙ ap (λ xs. slice_range bytes start end ∷ xs) (listed_more end bytes ends more h.1)
+    rw (range_more bytes more start end h.0 low, listed_more end bytes ends more h.1)
 
 ends_more : (start : ℕ) (ends : List ℕ) (last next : ℕ) → AreEnds start ends last → last ≤ next
     → AreEnds start (ends ++ next ∷ []) next
@@ -82,17 +81,17 @@ ends_more start (end ∷ ends) last next h rise = (h.0, ends_more end ends last 
 pub ends_count : (place : ℕ) (blocks ends : List ℕ) → length (ends_from place blocks ends) ≡ length ends
 unfolding ends_from
 ends_count place blocks [] = refl
-ends_count place blocks (end ∷ ends) = ap suc (ends_count (place + 1) blocks ends)
+ends_count place blocks (end ∷ ends) = rw (ends_count (place + 1) blocks ends)
 
 pub ends_at : (place : ℕ) (blocks ends : List ℕ) (i : ℕ) → i < length ends
     → get_or (ends_from place blocks ends) i 0 ≡ get_or blocks ((place + i) / 64) 0 + get_or ends i 0
 unfolding ends_from
 ends_at place blocks [] i low = absurd (omega arith)
 ends_at place blocks (end ∷ ends) zero low =
-    let here : place ≡ place + 0 = omega arith in ap (λ n. get_or blocks (n / 64) 0 + end) here
+    let here : place ≡ place + 0 = omega arith in cc
 ends_at place blocks (end ∷ ends) (suc i) low =
     let there : place + 1 + i ≡ place + suc i = omega arith in
-    ends_at (place + 1) blocks ends i (omega arith) ∙ ap (λ n. get_or blocks (n / 64) 0 + get_or ends i 0) there
+    rw (ends_at (place + 1) blocks ends i (omega arith), there)
 
 -- one block more
 ends_later : (place : ℕ) (blocks more ends : List ℕ) → place + length ends ≤ 64 * length blocks
@@ -109,11 +108,10 @@ ends_push : (place : ℕ) (blocks ends : List ℕ) (end : ℕ) → ends_from pla
     ≡ ends_from place blocks ends ++ (get_or blocks ((place + length ends) / 64) 0 + end) ∷ []
 unfolding ends_from
 ends_push place blocks [] end =
-    let here : place ≡ place + 0 = omega arith in ap (λ n. (get_or blocks (n / 64) 0 + end) ∷ []) here
+    let here : place ≡ place + 0 = omega arith in cc
 ends_push place blocks (first ∷ ends) end =
     let there : place + 1 + length ends ≡ place + suc (length ends) = omega arith in
-    ap (λ ns. (get_or blocks (place / 64) 0 + first) ∷ ns) (ends_push (place + 1) blocks ends end
-    ∙ ap (λ n. ends_from (place + 1) blocks ends ++ (get_or blocks (n / 64) 0 + end) ∷ []) there)
+    rw (ends_push (place + 1) blocks ends end, there)
 
 last_end : (start : ℕ) (ends : List ℕ) (last : ℕ) → AreEnds start ends last
     → get_or (start ∷ ends) (length ends) 0 ≡ last
@@ -130,24 +128,21 @@ pub block_low : (x : ByteLists) (k : ℕ) → IsStored x → k < length x.blocks
     → get_or x.blocks.items k 0 ≤ length x.bytes.items
 block_low x k h low =
     let count = ends_count 0 x.blocks.items x.ends.items in
-    let within : 64 * k ≤ length (ends_of x) = omega (arith, count, low, h.enough.1) in
-    let begins = h.blocks k low in
-    let most = starts_low 0 (ends_of x) (length x.bytes.items) (64 * k) h.ends within in
-    omega (arith, begins, most)
+    let within : 64 * k ≤ length (ends_of x) = omega arith in
+    omega (arith, h.blocks k low, starts_low 0 (ends_of x) (length x.bytes.items) (64 * k) h.ends within)
 
 -- the end of a key, by its block
 module _ (x : ByteLists) (i : ℕ) (h : IsStored x) (low : i < length x.ends.items) where
   pub its_block : i / 64 < length x.blocks.items
-  its_block = let e = h.enough.0 in omega (arith, low, e)
+  its_block = omega arith
 
   pub its_end : get_or (ends_of x) i 0 ≡ get_or x.blocks.items (i / 64) 0 + get_or x.ends.items i 0
   its_end = let here : 0 + i ≡ i = omega arith in
-      ends_at 0 x.blocks.items x.ends.items i low
-      ∙ ap (λ n. get_or x.blocks.items (n / 64) 0 + get_or x.ends.items i 0) here
+      rw (ends_at 0 x.blocks.items x.ends.items i low, here)
 
   pub its_end_low : get_or (ends_of x) i 0 ≤ length x.bytes.items
   its_end_low = end_low 0 (ends_of x) (length x.bytes.items) i h.ends
-      (let count = ends_count 0 x.blocks.items x.ends.items in omega (arith, count, low))
+      (omega (arith, ends_count 0 x.blocks.items x.ends.items))
 
 -- a store has room, and the keys that it had
 pub record HasOpened (x y : ByteLists) : Type 0 where
@@ -160,28 +155,33 @@ module _ (x y : ByteLists) (h : IsStored x) (full : length x.ends.items / 64 ≡
     (bytes : y.bytes ≡ x.bytes) (blocks : y.blocks.items ≡ x.blocks.items ++ length x.bytes.items ∷ [])
     (ends : y.ends ≡ x.ends) where
   all : length x.ends.items ≡ 64 * length x.blocks.items
-  all = let e = h.enough.0 in omega (arith, full, e)
+  all = omega arith
 
   same_ends : ends_of y ≡ ends_of x
-  same_ends = ap₂ (ends_from 0) blocks (ap (λ v. v.items) ends)
-      ∙ ends_later 0 x.blocks.items (length x.bytes.items ∷ []) x.ends.items (let a = all in omega arith)
+  same_ends = ap₂ (ends_from 0) blocks (rw ends)
+      ∙ ends_later 0 x.blocks.items (length x.bytes.items ∷ []) x.ends.items (omega arith)
 
   one_more : length y.blocks.items ≡ length x.blocks.items + 1
-  one_more = ap length blocks ∙ length-append x.blocks.items (length x.bytes.items ∷ [])
+  one_more = rw (blocks, length-append x.blocks.items (length x.bytes.items ∷ []))
 
   as_many : length y.ends.items ≡ length x.ends.items
-  as_many = ap (λ v. length v.items) ends
+  as_many = rw ends
 
   begins : (k : ℕ) → k < length y.blocks.items → get_or y.blocks.items k 0 ≡ get_or (0 ∷ ends_of y) (64 * k) 0
   begins k low = elim (cases_lt k (length x.blocks.items)) [
-    | inl less ↦ ap (λ ns. get_or ns k 0) blocks ∙ get_or-append x.blocks.items (length x.bytes.items ∷ []) 0 k less
-        ∙ h.blocks k less ∙ ap (λ ns. get_or (0 ∷ ns) (64 * k) 0) (sym same_ends)
+    | inl less ↦ simp (
+      blocks,
+      get_or-append x.blocks.items (length x.bytes.items ∷ []) 0 k less,
+      h.blocks k less,
+      ←
+          same_ends,
+    )
     | inr most ↦
         let m = one_more in
-        let last : k ≡ length x.blocks.items = omega (arith, most, low, m) in
+        let last : k ≡ length x.blocks.items = omega arith in
         let count = ends_count 0 x.blocks.items x.ends.items in
         let a = all in
-        let there : length (ends_of x) ≡ 64 * k = omega (arith, last, count, a) in
+        let there : length (ends_of x) ≡ 64 * k = omega arith in
         ap (λ ns. get_or ns k 0) blocks ∙ ap (λ n. get_or (x.blocks.items ++ length x.bytes.items ∷ []) n 0) last
         ∙ get_or-append_seam x.blocks.items (length x.bytes.items) [] 0
         ∙ sym (last_end 0 (ends_of x) (length x.bytes.items) h.ends)
@@ -191,12 +191,11 @@ module _ (x y : ByteLists) (h : IsStored x) (full : length x.ends.items / 64 ≡
   pub block_opened : HasOpened x y
   block_opened = let a = all in let m = one_more in let n = as_many in record {
     stored = record {
-      ends = subst (λ ns. AreEnds 0 ns (length y.bytes.items)) (sym same_ends)
-          (subst (λ v. AreEnds 0 (ends_of x) (length v.items)) (sym bytes) h.ends);
-      enough = (omega (arith, a, m, n), omega (arith, a, m, n));
+      ends = rw same_ends (subst (λ v. AreEnds 0 (ends_of x) (length v.items)) (sym bytes) h.ends);
+      enough = (omega arith, omega arith);
       blocks = begins;
     };
-    room = omega (arith, a, m, n);
+    room = omega arith;
     same = ap₂ (λ v es. listed_from 0 v.items es) bytes same_ends;
   }
 
@@ -206,7 +205,7 @@ has_room x h other = elim (cases_lt (length x.ends.items) (64 * length x.blocks.
   | inl less ↦ less
   | inr most ↦
       let e = h.enough.0 in
-      let full : length x.ends.items / 64 ≡ length x.blocks.items = omega (arith, most, e) in
+      let full : length x.ends.items / 64 ≡ length x.blocks.items = omega arith in
       absurd (other full)
 ]
 
@@ -221,45 +220,46 @@ module _ (x y : ByteLists) (key : List ℕ) (end : ℕ) (h : IsStored x) (room :
     (ends : y.ends.items ≡ x.ends.items ++ end ∷ [])
     (is : end ≡ length y.bytes.items - get_or x.blocks.items (length x.ends.items / 64) 0) where
   whole : length y.bytes.items ≡ length x.bytes.items + length key
-  whole = ap length bytes ∙ length-append x.bytes.items key
+  whole = rw (bytes, length-append x.bytes.items key)
 
   all_ends : ends_of y ≡ ends_of x ++ (length x.bytes.items + length key) ∷ []
   all_ends =
       let n = length x.ends.items in
       let here : 0 + n ≡ n = omega arith in
-      let low = block_low x (n / 64) h (omega (arith, room)) in
+      let low = block_low x (n / 64) h (omega arith) in
       let w = whole in
       let sum : get_or x.blocks.items (n / 64) 0 + end ≡ length x.bytes.items + length key =
-      omega (arith, low, w, is) in
-      ap₂ (λ v es. ends_from 0 v.items es) blocks ends ∙ ends_push 0 x.blocks.items x.ends.items end
-      ∙ ap (λ k. ends_of x ++ (get_or x.blocks.items (k / 64) 0 + end) ∷ []) here
-      ∙ ap (λ k. ends_of x ++ k ∷ []) sum
+      omega arith in
+      rw (ap₂ (λ v es. ends_from 0 v.items es) blocks ends, ends_push 0 x.blocks.items x.ends.items end, here, sum)
 
   more_ends : length y.ends.items ≡ length x.ends.items + 1
-  more_ends = ap length ends ∙ length-append x.ends.items (end ∷ [])
+  more_ends = rw (ends, length-append x.ends.items (end ∷ []))
 
   begins_still : (k : ℕ) → k < length y.blocks.items → get_or y.blocks.items k 0 ≡ get_or (0 ∷ ends_of y) (64 * k) 0
   begins_still k low =
-      let old : k < length x.blocks.items = subst (λ v. k < length v.items) blocks low in
+      let old : k < length x.blocks.items = rw (← blocks) low in
       let count = ends_count 0 x.blocks.items x.ends.items in
       let e = h.enough.1 in
-      let within : 64 * k < suc (length (ends_of x)) = omega (arith, old, count, e) in
-      ap (λ v. get_or v.items k 0) blocks ∙ h.blocks k old
-      ∙ sym (ap (λ ns. get_or (0 ∷ ns) (64 * k) 0) all_ends
-      ∙ get_or-append (0 ∷ ends_of x) ((length x.bytes.items + length key) ∷ []) 0 (64 * k) within)
+      let within : 64 * k < suc (length (ends_of x)) = omega arith in
+      simp (
+        blocks,
+        h.blocks k old,
+        ← get_or-append (0 ∷ ends_of x) ((length x.bytes.items + length key) ∷ []) 0
+            (64 * k) within,
+        ← all_ends,
+      )
 
   pub key_added : HasAdded x y key
   key_added = record {
     stored = record {
-      ends = subst (λ es. AreEnds 0 es (length y.bytes.items)) (sym all_ends)
-          (subst (λ n. AreEnds 0 (ends_of x ++ n ∷ []) (length y.bytes.items)) whole
+      ends = rw all_ends (subst (λ n. AreEnds 0 (ends_of x ++ n ∷ []) (length y.bytes.items)) whole
           (ends_more 0 (ends_of x) (length x.bytes.items) (length y.bytes.items) h.ends
           (let w = whole in omega arith)));
       enough =
           let e = h.enough.1 in
           let m = more_ends in
-          let b : length y.blocks.items ≡ length x.blocks.items = ap (λ v. length v.items) blocks in
-          (omega (arith, room, m, b), omega (arith, e, m, b));
+          let b : length y.blocks.items ≡ length x.blocks.items = rw blocks in
+          (omega arith, omega arith);
       blocks = begins_still;
     };
     added = ap₂ (listed_from 0) bytes all_ends ∙ listed_more 0 x.bytes.items (ends_of x) key h.ends;
@@ -277,17 +277,17 @@ none_ended blocks = refl
 
 module _ (x : ByteLists) (ends : x.ends.items ≡ []) where
   none : ends_of x ≡ []
-  none = ap (ends_from 0 x.blocks.items) ends ∙ none_ended x.blocks.items
+  none = rw (ends, none_ended x.blocks.items)
 
   pub none_kept : listed x ≡ []
-  none_kept = ap (listed_from 0 x.bytes.items) none ∙ none_listed 0 x.bytes.items
+  none_kept = rw (none, none_listed 0 x.bytes.items)
 
   pub none_stored : x.bytes.items ≡ [] → x.blocks.items ≡ [] → IsStored x
   none_stored bytes blocks =
-      let b : length x.blocks.items ≡ 0 = ap length blocks in
-      let e : length x.ends.items ≡ 0 = ap length ends in
+      let b : length x.blocks.items ≡ 0 = rw blocks in
+      let e : length x.ends.items ≡ 0 = rw ends in
       record {
-        ends = subst (λ ns. AreEnds 0 ns (length x.bytes.items)) (sym none) (sym (ap length bytes));
-        enough = (omega (arith, b, e), omega (arith, b, e));
-        blocks = λ k low. absurd (omega (arith, b, low));
+        ends = rw none (sym (ap length bytes));
+        enough = (omega arith, omega arith);
+        blocks = λ k low. absurd (omega arith);
       }

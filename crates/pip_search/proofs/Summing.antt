@@ -1,6 +1,6 @@
 -- From what a search found to what it says.
 use Rattle.std.proofs.Common.{◌≡◌, ◌≢◌, ℕ, ◌+◌, ◌<◌, ◌≤◌, ◌⊎◌, inl, inr, List, [], ◌∷◌, length, map, Some, slice_get}
-use Rattle.std.proofs.Common.{refl, ap, sym, subst, ◌∙◌, arith}
+use Rattle.std.proofs.Common.{refl, ap, sym, subst, arith}
 use Rattle.std.specs.Prelude.{true, filter}
 use Rattle.std.proofs.lemmas.Bool.{cases_eq, cases_lt}
 use Rattle.std.proofs.lemmas.Bool.Decides.{nat_tests}
@@ -8,8 +8,8 @@ use Rattle.std.proofs.lemmas.List.{length-map}
 use Rattle.pip_search.specs.Ending.{AreWithin, Ends, HasDepth, HasMore}
 use Rattle.pip_search.specs.Keys.{Keyed, key_of, keys, labels, steps_of}
 use Rattle.pip_search.specs.Naming.{AreDistinct}
-use Rattle.pip_search.specs.Orders.{IsBefore, IsNoLater, IsRanked, IsTrail}
-use Rattle.pip_search.specs.Reached.{AreChoices, IsCovered, Tells}
+use Rattle.pip_search.specs.Orders.{IsBefore, IsRanked, IsTrail}
+use Rattle.pip_search.specs.Reached.{IsCovered, Tells}
 use Rattle.pip_search.specs.Summary.{AreCounted, HasAway, HasOneKey, HasOneMore, HasWitness, IsAmong, IsAway, IsEnd}
 use Rattle.pip_search.specs.Summary.{IsShownOn}
 use Rattle.pip_search.specs.Summary.{IsTold, Witness, farthest}
@@ -64,9 +64,8 @@ module _ (m : Model) (s : m.State) (vs : List Keyed) (fs : List Found) (v : Exte
       let way = (way_trail (steps_of vs) fs back (f.at + 1) f.at from.from (omega arith) from.at).0 in
       let same : h.choices ≡ way_to (steps_of vs) f.at = trail_same (steps_of vs) h.choices (way_to (steps_of vs) f.at)
       f.at h.trail way in (
-        subst (λ cs. AreChoices m (f.choice ∷ cs) × (f.label.items ≡ m.label (after_choices m s cs) f.choice)) same
-            (h.can, h.shown),
-        ((let n = h.count in let l = ap (λ (cs : List ℕ). length cs) same in omega arith), way),
+        rw (← same) (h.can, h.shown),
+        ((omega (arith, ap (λ (cs : List ℕ). length cs) same)), way),
       )
 
   -- the places of those that were covered
@@ -85,15 +84,14 @@ module _ (m : Model) (s : m.State) (vs : List Keyed) (fs : List Found) (v : Exte
       let (f, (at, is)) = found_of k w e in
       let (j, (there, good)) = at_filter (λ (f : Found). is_covered v f.depth) fs k f at in
       let h = way_shows j f there in
-      subst (λ (y : Witness). IsShownOn m s y.label y.way × ((y.label ≢ []) × IsCovered v (length y.way))) is
-      (h.0, (some j f there, subst (IsCovered v) (sym h.1.0) (covered_true v f.depth good)))
+      rw (← is) (h.0, (some j f there, subst (IsCovered v) (sym h.1.0) (covered_true v f.depth good)))
 
   all_shown : (label cs : List ℕ) → IsShownOn m s label cs → label ≢ [] → IsCovered v (length cs)
       → HasWitness (witnesses_of v (steps_of vs) fs) label cs
   all_shown label [] h some cover = absurd h
   all_shown label (c ∷ cs) (can, is) some cover =
       let far : IsCovered v (length cs + 1) = subst (IsCovered v) (omega arith) cover in
-      let x = t.told c cs can far (λ e. some (is ∙ e)) in
+      let x = t.told c cs can far (λ e. some (cc)) in
       let f = x.found in
       let near : f.depth ≤ length (c ∷ cs) = x.soon in
       let good = covered_is v f.depth (covered_down v (length (c ∷ cs)) f.depth cover near) in
@@ -103,9 +101,8 @@ module _ (m : Model) (s : m.State) (vs : List Keyed) (fs : List Found) (v : Exte
         place = k;
         witness = witness_of (steps_of vs) f;
         at = map_at (witness_of (steps_of vs)) covered k f at;
-        same = x.same ∙ sym is;
-        first = subst (λ ds. IsNoLater (f.choice ∷ ds) (c ∷ cs))
-            (trail_same (steps_of vs) x.way (way_to (steps_of vs) f.at) f.at x.trail h.1.1) x.first;
+        same = cc (x.same);
+        first = rw (← trail_same (steps_of vs) x.way (way_to (steps_of vs) f.at) f.at x.trail h.1.1) x.first;
       }
 
   module _ (i c : ℕ) (ranked : IsRanked (steps_of vs) fs i c) where
@@ -114,7 +111,7 @@ module _ (m : Model) (s : m.State) (vs : List Keyed) (fs : List Found) (v : Exte
     way_before j k f g a e b = elim (ranked.told j k f g a e b) [
       | inl less ↦ inl (trail_before (steps_of vs) fs i c ranked (way_to (steps_of vs) f.at)
           (way_to (steps_of vs) g.at) f.at g.at less (way_shows j f e).1.1 (way_shows k g b).1.1)
-      | inr same ↦ inr (ap (way_to (steps_of vs)) same.0, same.1)
+      | inr same ↦ inr (rw same.0, same.1)
     ]
 
     in_order : (j k : ℕ) (w x : Witness) → j < k → slice_get (witnesses_of v (steps_of vs) fs) j ≡ Some w
@@ -123,8 +120,8 @@ module _ (m : Model) (s : m.State) (vs : List Keyed) (fs : List Found) (v : Exte
         let (f, (at, is)) = found_of j w e in
         let (g, (bt, js)) = found_of k x b in
         let (p, (q, (less, (there, then)))) = filter_rises (λ (f : Found). is_covered v f.depth) fs j k f g a at bt in
-        subst (λ (y : Witness). IsBefore w.way y.way) js
-        (subst (λ (y : Witness). IsBefore y.way (found_way (steps_of vs) g)) is (way_before p q f g less there then))
+        rw (← js) (subst (λ (y : Witness). IsBefore y.way (found_way (steps_of vs) g)) is
+        (way_before p q f g less there then))
 
   -- two witnesses with one label stand at one place
   not_less : AreDistinct (labels fs) → (j k : ℕ) (w x : Witness) → j < k
@@ -134,10 +131,9 @@ module _ (m : Model) (s : m.State) (vs : List Keyed) (fs : List Found) (v : Exte
       let (f, (at, is)) = found_of j w e in
       let (g, (bt, js)) = found_of k x b in
       let (p, (q, (less, (there, then)))) = filter_rises (λ (f : Found). is_covered v f.depth) fs j k f g a at bt in
-      let label : f.label.items ≡ g.label.items = ap (λ (y : Witness). y.label) is ∙ same
-      ∙ sym (ap (λ (y : Witness). y.label) js) in
+      let label : f.label.items ≡ g.label.items = cc in
       let one : p ≡ q = distinct p q g.label.items
-      (map_at (λ (f : Found). f.label.items) fs p f there ∙ ap (λ y. Some y) label)
+      (rw (map_at (λ (f : Found). f.label.items) fs p f there, label))
       (map_at (λ (f : Found). f.label.items) fs q g then) in
       absurd (omega arith)
 
@@ -146,10 +142,10 @@ module _ (m : Model) (s : m.State) (vs : List Keyed) (fs : List Found) (v : Exte
       let (w, (at, is)) = at_map (λ (w : Witness). w.label) (witnesses_of v (steps_of vs) fs) j name e in
       let (x, (bt, js)) = at_map (λ (w : Witness). w.label) (witnesses_of v (steps_of vs) fs) k name b in
       elim (cases_lt j k) [
-        | inl less ↦ absurd (not_less distinct j k w x less at bt (is ∙ sym js))
+        | inl less ↦ absurd (not_less distinct j k w x less at bt (cc))
         | inr late ↦ elim (cases_eq j k) [
           | inl same ↦ same
-          | inr other ↦ absurd (not_less distinct k j x w (omega arith) bt at (js ∙ sym is))
+          | inr other ↦ absurd (not_less distinct k j x w (omega arith) bt at (cc))
         ]
       ]
 
@@ -180,13 +176,12 @@ module _ (m : Model) (s : m.State) (vs : List Keyed) (fs : List Found) (v : Exte
                 let same : key_of u ≡ key_of x.visit = one (key_of u) (key_of x.visit) (after_choices m s cs) stands
                 x.stands in
                 let places : j ≡ x.place = distinct j x.place (key_of x.visit)
-                (map_at key_of vs j u e ∙ ap (λ y. Some y) same) (map_at key_of vs x.place x.visit x.at) in
+                (rw (map_at key_of vs j u e, same)) (map_at key_of vs x.place x.visit x.at) in
                 let own : x.visit ≡ u = at-same vs x.place x.visit u x.at
-                (subst (λ k. slice_get vs k ≡ Some u) places e) in
-                let depth : x.visit.depth ≡ u.depth = ap (λ y. y.depth) own in
-                let soon = x.soon in
+                (rw (← places) e) in
+                let depth : x.visit.depth ≡ u.depth = rw own in
                 omega arith
-            | inr far ↦ let low = all_within m vs most limit v ends j u e in omega arith
+            | inr far ↦ omega (arith, all_within m vs most limit v ends j u e)
           ];
         }
 
@@ -194,7 +189,7 @@ module _ (m : Model) (s : m.State) (vs : List Keyed) (fs : List Found) (v : Exte
     counted = record {
       distinct = distinct;
       reached = λ j key e. let (u, (at, is)) = at_map key_of vs j key e in
-          (u.depth, (all_within m vs most limit v ends j u at, subst (λ k. IsAway m s k u.depth) is (away j u at)));
+          (u.depth, (all_within m vs most limit v ends j u at, rw is at (away j u at)));
       all = λ cs can cover. let x = t.all cs can cover in among (after_choices m s cs) cs x.place x.visit x.at x.stands;
     }
 
@@ -203,7 +198,7 @@ module _ (m : Model) (s : m.State) (vs : List Keyed) (fs : List Found) (v : Exte
       place = h.place;
       key = key_of h.visit;
       at = map_at key_of vs h.place h.visit h.at;
-      away = subst (λ n. IsAway m s (key_of h.visit) n) h.depth_is (away h.place h.visit h.at);
+      away = rw (← h.depth_is) (away h.place h.visit h.at);
     }
 
     one_more : (depth : ℕ) → HasMore m vs limit depth → HasOneMore m s (keys vs) (depth + 1)
@@ -214,9 +209,12 @@ module _ (m : Model) (s : m.State) (vs : List Keyed) (fs : List Found) (v : Exte
         record {
           choices = b.choice ∷ r.choices;
           can = (b.can, r.can);
-          count = let n = r.count in let d = h.depth_is in omega arith;
-          none = λ x. b.absent x.place (x.at ∙ ap (λ y. Some y)
-              (one x.key b.key (m.act (after_choices m s r.choices) b.choice) x.stands next.0));
+          count = omega arith;
+          none = λ x. b.absent x.place (rw (
+            x.at,
+            one x.key b.key (m.act (after_choices m s r.choices) b.choice)
+                x.stands next.0,
+          ));
         }
 
 count_is : (vs : List Keyed) → length (keys vs) ≡ length vs

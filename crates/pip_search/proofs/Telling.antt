@@ -1,6 +1,6 @@
 -- From what is known at the end of a search to the theorem.
 use Rattle.std.proofs.Common.{◌≡◌, ◌≢◌, ℕ, zero, suc, ◌+◌, ◌<◌, ◌≤◌, ◌⊎◌, inl, inr, List, [], ◌∷◌, length, Some}
-use Rattle.std.proofs.Common.{slice_get, refl, ap, sym, subst, ◌∙◌, arith}
+use Rattle.std.proofs.Common.{slice_get, refl, sym, subst, ◌∙◌, arith}
 use Rattle.std.proofs.lemmas.Bool.{cases_lt}
 use Rattle.pip_search.specs.Systems.{IsKey, Model, after_choices}
 use Rattle.pip_search.specs.Began.{HasBegun, IsRoot}
@@ -37,19 +37,19 @@ begun_one m start first key root = record {
     one zero u e = let same : u ≡ first = cc in
         inl (record {
           zero_th = refl;
-          key = ap (λ y. key_of y) same ∙ key;
-          root = subst (λ y. IsRoot (step_of y)) (sym same) root;
+          key = rw (same, key);
+          root = rw same root;
         })
     one (suc j) u e = absurd (cc)
 
     zero_depth : (j : ℕ) (u : Keyed) → slice_get (first ∷ []) j ≡ Some u → u.depth ≡ 0
-    zero_depth zero u e = let same : u ≡ first = cc in ap (λ y. y.depth) same ∙ root.depth
+    zero_depth zero u e = let same : u ≡ first = cc in rw (same, root.depth)
     zero_depth (suc j) u e = absurd (cc)
 
 pub begun : (m : Model) (start : List ℕ) (vs : List Keyed) (fs : List Found) → HasBegun start vs fs
     → IsExploring m start vs fs 0 0
-begun m start vs fs b = subst (λ y. IsExploring m start y fs 0 0) (sym b.one)
-    (subst (λ y. IsExploring m start (b.first ∷ []) y 0 0) (sym b.none) (begun_one m start b.first b.key b.root))
+begun m start vs fs b = rw b.one (subst (λ y. IsExploring m start (b.first ∷ []) y 0 0) (sym b.none)
+    (begun_one m start b.first b.key b.root))
 
 -- ---- from one visit to the next
 
@@ -61,8 +61,7 @@ next_visit m start vs fs i c h e inside =
       some = h.some;
       before = λ j d a b. elim (below j a) [
         | inl less ↦ h.before j d less b
-        | inr same ↦ subst (λ k. WasMade m vs fs k d) (sym same)
-            (h.here d (omega arith))
+        | inr same ↦ rw same (h.here d (omega arith))
       ];
       here = λ d a. absurd (omega arith);
       visits = h.visits;
@@ -90,16 +89,16 @@ module _ (m : Model) (start : List ℕ) (vs : List Keyed) (fs : List Found) (i c
     trail = first.zero_th;
     can = tt;
     count = sym first.root.depth;
-    stands = subst (λ y. m.stands y s) (sym first.key) stands;
+    stands = rw first.key stands;
   }
   reach_step j u (inr child) before e =
       let r = before u.parent child.from child.earlier child.at in
       let l = child.leads (after_choices m s r.choices) r.stands in
       record {
         choices = u.choice ∷ r.choices;
-        trail = (let b = child.earlier in omega arith, (step_of u, (map_at step_of vs j u e, (refl, r.trail))));
+        trail = (omega arith, (step_of u, (map_at step_of vs j u e, (refl, r.trail))));
         can = (child.choice, r.can);
-        count = let a = r.count in let b = child.depth in omega arith;
+        count = omega arith;
         stands = l.0;
       }
 
@@ -121,8 +120,7 @@ module _ (m : Model) (start : List ℕ) (vs : List Keyed) (fs : List Found) (i c
         choices = r.choices;
         trail = r.trail;
         can = (x.choice, r.can);
-        count = let a = r.count in
-            let b = x.depth in omega arith;
+        count = omega arith;
         shown = l.1;
       }
 
@@ -158,8 +156,8 @@ module _ (m : Model) (start : List ℕ) (vs : List Keyed) (fs : List Found) (i c
       let same : w.from ≡ v.visit = at-same vs v.place w.from v.visit w.at v.at in
       record {
         made = (v.place, w);
-        near = let e : w.from.depth ≡ v.visit.depth = ap (λ y. y.depth) same in let b = v.soon in omega arith;
-        here = subst (λ y. m.stands (key_of y) (after_choices m s cs)) (sym same) v.stands;
+        near = let e : w.from.depth ≡ v.visit.depth = rw same in omega arith;
+        here = rw same v.stands;
         way = v.way;
         trail = v.trail;
         first = v.first;
@@ -173,13 +171,13 @@ module _ (m : Model) (start : List ℕ) (vs : List Keyed) (fs : List Found) (i c
           place = 0;
           visit = u;
           at = at;
-          soon = let d = first.root.depth in omega arith;
-          stands = subst (λ y. m.stands y s) (sym first.key) stands;
+          soon = omega arith;
+          stands = rw first.key stands;
           way = [];
           trail = refl;
           first = inl refl;
         }
-        | inr child ↦ let b = child.earlier in absurd (omega arith)
+        | inr child ↦ absurd (omega arith)
       ]
 
   -- the way of a visit to which a choice leads is no later than the choices that lead there
@@ -193,8 +191,8 @@ module _ (m : Model) (start : List ℕ) (vs : List Keyed) (fs : List Found) (i c
       elim w.early [
         | inl none ↦ absurd (omega arith)
         | inr early ↦ earlier_no_later (steps_of vs) fs i c ranked ws x.way cs u.parent b x.made.0 d
-            (subst (λ k. IsEarlier u.parent k x.made.0 (d + 1)) is
-            (subst (λ (y : Visit). IsEarlier y.parent y.choice x.made.0 (d + 1)) same early)) rest x.trail x.first
+            (rw (← is) (subst (λ (y : Visit). IsEarlier y.parent y.choice x.made.0 (d + 1)) same early)) rest x.trail
+            x.first
       ]
 
   pub all_visited : (cs : List ℕ) → AreChoices m cs → IsCovered verdict (length cs)
@@ -209,7 +207,7 @@ module _ (m : Model) (start : List ℕ) (vs : List Keyed) (fs : List Found) (i c
         place = w.place;
         visit = w.to;
         at = w.there;
-        soon = let p = w.near in let q = x.near in omega arith;
+        soon = omega arith;
         stands = (w.leads (after_choices m s cs) x.here).0;
         way = r.choices;
         trail = r.trail;
@@ -222,7 +220,7 @@ module _ (m : Model) (start : List ℕ) (vs : List Keyed) (fs : List Found) (i c
       let x = step d cs a far (all_visited cs can (down (length cs) far)) in
       let w = x.made.1 in
       let l : w.shown ≡ m.label (after_choices m s cs) d = (w.leads (after_choices m s cs) x.here).1 in
-      let t = w.told (λ e. some (sym l ∙ e)) in
+      let t = w.told (λ e. some (cc)) in
       let y = h.labels t.place t.found t.at in
       let r = all_reached m start vs fs i c h s stands t.found.at y.from y.at in
       record {
@@ -234,7 +232,7 @@ module _ (m : Model) (start : List ℕ) (vs : List Keyed) (fs : List Found) (i c
         found = t.found;
         at = t.at;
         same = t.same ∙ l;
-        soon = let p = t.soon in let q = x.near in omega arith;
+        soon = omega arith;
       }
 
   pub tells : Tells m s vs fs verdict

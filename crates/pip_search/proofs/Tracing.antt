@@ -1,6 +1,6 @@
 -- Ways back over parents.
 use Rattle.std.proofs.Common.{◌≡◌, ℕ, zero, suc, ◌+◌, ◌<◌, ◌≤◌, inl, inr, List, [], ◌∷◌, ◌++◌, length, Some, None}
-use Rattle.std.proofs.Common.{replicate, slice_get, refl, ap, sym, subst, ◌∙◌, arith}
+use Rattle.std.proofs.Common.{replicate, slice_get, refl, sym, subst, ◌∙◌, arith}
 use Rattle.pip_search.specs.Orders.{IsTrail}
 use Rattle.pip_search.specs.Ways.{AreTraced, choices_back, way_back, way_to}
 use Rattle.pip_search.specs.declared.visits.Visit.{Visit}
@@ -29,13 +29,13 @@ pub record IsRunBack (vs : List Visit) (j : ℕ) (u : Visit) : Type 0 where
 module _ (vs : List Visit) (fs : List Found) (t : AreTraced vs fs) where
   -- more parents than there are change nothing
   enough : (n k j : ℕ) → j ≤ n → j ≤ k → way_back n vs j ≡ way_back k vs j
-  enough n k zero a b = back_none n vs ∙ sym (back_none k vs)
+  enough n k zero a b = cc (back_none n vs, back_none k vs)
   enough zero k (suc j) a b = absurd (omega arith)
   enough (suc n) zero (suc j) a b = absurd (omega arith)
   enough (suc n) (suc k) (suc j) a b =
       let parents : (u : Visit) → slice_get vs (suc j) ≡ Some u → u.parent < suc j = λ u e.
       elim (t.visits (suc j) u e) [
-        | inl first ↦ let z = first.0 in absurd (omega arith)
+        | inl first ↦ absurd (omega arith)
         | inr from ↦ from.earlier
       ] in
       back_more n j vs
@@ -43,15 +43,19 @@ module _ (vs : List Visit) (fs : List Found) (t : AreTraced vs fs) where
       → choices_back o (way_back n vs) ≡ choices_back o (way_back k vs)) [
         | None ↦ λ e. refl
         | Some u ↦ λ e. let p = parents u e in
-            ap (λ cs. u.choice ∷ cs) (enough n k u.parent (omega arith) (omega arith))
+            rw (enough n k u.parent (omega arith) (omega arith))
       ] refl ∙ sym (back_more k j vs)
 
   pub way_more : (j : ℕ) (u : Visit) → 0 < j → slice_get vs j ≡ Some u → way_to vs j ≡ u.choice ∷ way_to vs u.parent
   way_more zero u some e = absurd (omega arith)
   way_more (suc j) u some e = elim (t.visits (suc j) u e) [
-    | inl first ↦ let z = first.0 in absurd (omega arith)
-    | inr from ↦ let p = from.earlier in back_more j j vs ∙ ap (λ o. choices_back o (way_back j vs)) e
-        ∙ ap (λ cs. u.choice ∷ cs) (enough j u.parent u.parent (omega arith) (omega arith))
+    | inl first ↦ absurd (omega arith)
+    | inr from ↦ let p = from.earlier in rw (
+      back_more j j vs,
+      e,
+      enough j u.parent u.parent (omega arith)
+          (omega arith),
+    )
   ]
 
   pub way_none : way_to vs 0 ≡ []
@@ -62,40 +66,37 @@ module _ (vs : List Visit) (fs : List Found) (t : AreTraced vs fs) where
       × (length (way_to vs j) ≡ u.depth)
   way_trail zero j u a e = absurd (omega arith)
   way_trail (suc n) j u a e = elim (t.visits j u e) [
-    | inl first ↦ subst (λ k. IsTrail vs k (way_to vs k) × (length (way_to vs k) ≡ u.depth)) (sym first.0)
-        (subst (λ cs. IsTrail vs 0 cs × (length cs ≡ u.depth)) (sym way_none) (refl, sym first.1.depth))
+    | inl first ↦ rw first.0 (subst (λ cs. IsTrail vs 0 cs × (length cs ≡ u.depth)) (sym way_none)
+        (refl, sym first.1.depth))
     | inr from ↦ let low = from.earlier in let some : 0 < j = omega arith in
         let r = way_trail n u.parent from.from (omega arith) from.at in
-        subst (λ cs. IsTrail vs j cs × (length cs ≡ u.depth)) (sym (way_more j u some e))
-        ((some, (u, (e, (refl, r.0)))), let d = r.1 in let f = from.depth in omega arith)
+        rw (way_more j u some e) ((some, (u, (e, (refl, r.0)))), let d = r.1 in let f = from.depth in omega arith)
   ]
 
   pub run_back : (n j : ℕ) (u : Visit) → j < n → 0 < j → slice_get vs j ≡ Some u → IsRunBack vs j u
   run_back zero j u a some e = absurd (omega arith)
   run_back (suc n) j u a some e = elim (t.visits j u e) [
-    | inl first ↦ let z = first.0 in absurd (omega arith)
+    | inl first ↦ absurd (omega arith)
     | inr from ↦ elim from.run [
       | inl plain ↦ record {
         start = from.from;
-        at = subst (λ p. slice_get vs p ≡ Some from.from) (sym plain.1) from.at;
-        low = let p = from.earlier in let s = plain.1 in omega arith;
+        at = rw plain.1 from.at;
+        low = omega arith;
         count = 1;
         some = omega arith;
-        depth = let d = from.depth in omega arith;
-        way = way_more j u some e ∙ ap (λ p. u.choice ∷ way_to vs p) (sym plain.1);
+        depth = omega arith;
+        way = rw (way_more j u some e, ← plain.1);
       }
       | inr longer ↦ let low = from.earlier in
           let r = run_back n u.parent from.from (omega arith) longer.0 from.at in
           record {
             start = r.start;
-            at = subst (λ p. slice_get vs p ≡ Some r.start) (sym longer.1.1) r.at;
-            low = let l = r.low in let s = longer.1.1 in omega arith;
+            at = rw longer.1.1 r.at;
+            low = omega arith;
             count = suc r.count;
             some = omega arith;
-            depth = let d = from.depth in let f = r.depth in omega arith;
-            way = way_more j u some e ∙ ap (λ cs. u.choice ∷ cs) (r.way
-                ∙ ap (λ c. replicate r.count c ++ way_to vs from.from.run) longer.1.0
-                ∙ ap (λ p. replicate r.count u.choice ++ way_to vs p) (sym longer.1.1));
+            depth = omega arith;
+            way = cc (way_more j u some e, r.way, longer.1.0, longer.1.1);
           }
     ]
   ]

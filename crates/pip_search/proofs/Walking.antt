@@ -1,6 +1,6 @@
 -- One more list that is found by its hash.
-use Rattle.std.proofs.Common.{◌≡◌, ℕ, zero, suc, ◌+◌, ◌<◌, inl, inr, List, [], ◌∷◌, ◌++◌, length}
-use Rattle.std.proofs.Common.{length-append, map, Some, slice_get, refl, ap, sym, subst, ◌∙◌, arith, get_or}
+use Rattle.std.proofs.Common.{◌≡◌, ℕ, zero, suc, ◌<◌, inl, inr, List, [], ◌∷◌, ◌++◌, length}
+use Rattle.std.proofs.Common.{length-append, map, Some, slice_get, refl, sym, ◌∙◌, arith}
 use Rattle.std.proofs.Math.ListN.{get_or-append}
 use Rattle.std.proofs.Math.Seq.{get_or-append_seam}
 use Rattle.pip_search.specs.Cells.{HasHashes}
@@ -14,23 +14,19 @@ pub named_more : (names : List (List ℕ)) (x y : HashTable) (name : List ℕ) (
     → y.seed ≡ x.seed → AreNamed (names ++ name ∷ []) y
 named_more names x y name hash n is none filled more same = record {
   filled = filled;
-  count = ap length more ∙ length-append x.hashes.items (hash ∷ []) ∙ ap (λ k. k + 1) n.count
-      ∙ sym (length-append names (name ∷ []));
+  count = rw (more, length-append x.hashes.items (hash ∷ []), n.count, ← length-append names (name ∷ []));
   hashed = λ j m e. elim (get-back names name j m e) [
     | inl old ↦ let b : j < length names = get-below names j m old in let q = n.count in
-        ap (λ ks. get_or ks j 0) more ∙ get_or-append x.hashes.items (hash ∷ []) 0 j (omega arith) ∙ n.hashed j m old
-        ∙ ap (λ s. hash_of s m) (sym same)
-    | inr new ↦ ap (λ ks. get_or ks j 0) more ∙ ap (λ k. get_or (x.hashes.items ++ hash ∷ []) k 0)
-        (new.0 ∙ sym n.count) ∙ get_or-append_seam x.hashes.items hash [] 0 ∙ is ∙ ap (hash_of x.seed) (sym new.1)
-        ∙ ap (λ s. hash_of s m) (sym same)
+        rw (more, get_or-append x.hashes.items (hash ∷ []) 0 j (omega arith), n.hashed j m old, ← same)
+    | inr new ↦ rw (more, new.0, ← n.count, get_or-append_seam x.hashes.items hash [] 0, is, ← new.1, ← same)
   ];
   distinct = λ i j m e f. elim (get-back names name i m e) [
     | inl old ↦ elim (get-back names name j m f) [
       | inl early ↦ n.distinct i j m old early
-      | inr late ↦ absurd (none i (subst (λ y. slice_get names i ≡ Some y) late.1 old))
+      | inr late ↦ absurd (none i (rw (← late.1) old))
     ]
     | inr new ↦ elim (get-back names name j m f) [
-      | inl early ↦ absurd (none j (subst (λ y. slice_get names j ≡ Some y) new.1 early))
+      | inl early ↦ absurd (none j (rw (← new.1) early))
       | inr late ↦ new.0 ∙ sym late.0
     ]
   ];
@@ -40,7 +36,7 @@ named_more names x y name hash n is none filled more same = record {
 pub none_named : (x : HashTable) → HasHashes x → x.hashes.items ≡ [] → AreNamed [] x
 none_named x filled none = record {
   filled = filled;
-  count = ap length none;
+  count = rw none;
   hashed = λ j m e. absurd (cc);
   distinct = λ i j m e f. absurd (cc);
 }
@@ -50,7 +46,7 @@ none_named x filled none = record {
 module _ {X : Type 0} (f : X → List ℕ) where
   pub named_at : (xs : List X) (j : ℕ) (x : X) → slice_get xs j ≡ Some x → slice_get (map f xs) j ≡ Some (f x)
   named_at [] j x e = absurd (cc)
-  named_at (y ∷ xs) zero x e = let same : y ≡ x = cc in ap (λ z. Some (f z)) same
+  named_at (y ∷ xs) zero x e = let same : y ≡ x = cc in rw same
   named_at (y ∷ xs) (suc j) x e = named_at xs j x e
 
   pub at_named : (xs : List X) (j : ℕ) (name : List ℕ) → slice_get (map f xs) j ≡ Some name → (x : X)
@@ -61,7 +57,7 @@ module _ {X : Type 0} (f : X → List ℕ) where
 
   pub named_push : (xs : List X) (x : X) → map f (xs ++ x ∷ []) ≡ map f xs ++ f x ∷ []
   named_push [] x = refl
-  named_push (y ∷ xs) x = ap (λ z. f y ∷ z) (named_push xs x)
+  named_push (y ∷ xs) x = rw (named_push xs x)
 
   -- one more of them, with its hash
   pub named_push_more : (xs ys : List X) (x y : HashTable) (one : X) (hash : ℕ) → AreNamed (map f xs) x
@@ -69,5 +65,4 @@ module _ {X : Type 0} (f : X → List ℕ) where
       → y.hashes.items ≡ x.hashes.items ++ hash ∷ [] → y.seed ≡ x.seed → ys ≡ xs ++ one ∷ []
       → AreNamed (map f ys) y
   named_push_more xs ys x y one hash n is none filled more same whole =
-      subst (λ z. AreNamed z y) (sym (ap (map f) whole ∙ named_push xs one))
-      (named_more (map f xs) x y (f one) hash n is none filled more same)
+      rw (whole, named_push xs one) (named_more (map f xs) x y (f one) hash n is none filled more same)

@@ -6,16 +6,14 @@ use Rattle.std.proofs.lemmas.Bool.{cases_eq, false_from_ne_true, ne_eqb}
 use Rattle.std.proofs.lemmas.Bool.Decides.{nat_tests}
 use Rattle.pip_base.specs.declared.outcome.Outcome.TheVariants as O
 use Rattle.pip_base.specs.declared.types.Ctx.{Ctx}
-use Rattle.pip_model.specs.Acts.{Makes, Writes}
+use Rattle.pip_model.specs.Acts.{Makes}
 use Rattle.pip_model.specs.Cache.{Places}
 use Rattle.pip_model.specs.Events as E
 use Rattle.pip_model.specs.Handlers.{handler, save, save_place}
 use Rattle.pip_model.specs.Happens.{caches_after, event, what_happens}
-use Rattle.pip_model.specs.Lists.{In}
 use Rattle.pip_model.specs.Poll.{lines_with, lowest_line, may_take, none_taken, occupant_name, poll, poll_line}
 use Rattle.pip_model.specs.Poll.{runs_elsewhere, take_line}
-use Rattle.pip_model.specs.Tree.{Node, Tree, ancestry, node, nodes, on_nodes}
-use Rattle.pip_model.specs.Turn.{moved_line}
+use Rattle.pip_model.specs.Tree.{Node, Tree, node, nodes, on_nodes}
 use Rattle.pip_model.specs.Worlds.{IsSoundWorld, World, handler_context, lines_in, masked_node, runs_on}
 use Rattle.pip_model.specs.Worlds.{with_caches, with_masked, with_pending}
 use Rattle.pip_model.specs.declared.processors.Occupant.{Occupant}
@@ -33,7 +31,7 @@ use Rattle.pip_guests.proofs.Lines.{line_alike, not_top}
 use Rattle.pip_guests.proofs.Moves.{saved_leaves}
 use Rattle.pip_guests.proofs.Taking.{trees}
 use Rattle.pip_slots.specs.Slots.{IsBetweenSlots, closing, polling}
-use Rattle.pip_native_run.specs.Watching.{is_root, root_runs}
+use Rattle.pip_native_run.specs.Watching.{root_runs}
 use Rattle.pip_slots.proofs.Kids.{Kid, cpu_of_name}
 use Rattle.pip_slots.proofs.Roots.{KeepsRoot, handles_some, keeps_masked, keeps_pending, keeps_trans, leaves_keeps}
 use Rattle.pip_slots.proofs.Roots.{takes_kept}
@@ -55,10 +53,10 @@ kid_on f names ups borns d p t k =
     let n = node_on f names t p in
     let u = on_nodes f t in
     record {
-      name = subst (IsName u) (ap (λ x. x.name) n ∙ names (node t p) ∙ (node_found t p k.name).1)
+      name = subst (IsName u) (rw (n, names (node t p), (node_found t p k.name).1))
           (name_in (node u p) (nodes u) (node_in u p));
-      up = ap (λ x. x.up) n ∙ ups (node t p) ∙ k.up ∙ sym (names t.root);
-      born = ap (λ x. x.born) n ∙ borns (node t p) ∙ k.born;
+      up = rw (n, ups (node t p), k.up) (sym (names t.root));
+      born = rw (n, borns (node t p), k.born);
       low = λ e. k.low (e ∙ names t.root);
     }
 
@@ -79,8 +77,7 @@ module _ (w : World) (r : Occupant) (y : Ready w) (k : runs_on w 0 ≡ Some r) (
   top = w.tree.root.name
 
   raised_pending : (raised w).tree.root.pending ≡ 0 ∷ []
-  raised_pending = ap (λ b. cond b (lines_with 0 w.tree.root.pending) w.tree.root.pending)
-      (eq-eqb w.tree.root.name w.tree.root.name refl) ∙ ap (lines_with 0) y.quiet
+  raised_pending = rw (eq-eqb w.tree.root.name w.tree.root.name refl, y.quiet)
 
   raised_sound : IsSoundWorld (raised w)
   raised_sound = event-sound w (E.Raise 0) y.sound (omega arith)
@@ -107,12 +104,13 @@ module _ (w : World) (r : Occupant) (y : Ready w) (k : runs_on w 0 ≡ Some r) (
 
   may : may_take (raised w) 0 (Some r) ≡ true
   may =
-      ap (λ x. not x && ((not (raised w).tree.root.masked || not (r.name == w.tree.root.name))
-      && nat_lt 0 (length w.cpus))) alone_there
-      ∙ ap (λ x. (not (raised w).tree.root.masked || not x) && nat_lt 0 (length w.cpus))
-      (ne_eqb r.name w.tree.root.name m)
-      ∙ ap (λ x. (not (raised w).tree.root.masked || true) && x) (lt_pos (length w.cpus) y.sound.at_least_one)
-      ∙ both_true (raised w).tree.root.masked
+      rw (
+        alone_there,
+        ne_eqb r.name w.tree.root.name m,
+        lt_pos (length w.cpus) y.sound.at_least_one,
+        both_true
+            (raised w).tree.root.masked,
+      )
 
   poll_is : what_happens (raised w) (E.Poll 0) ≡ take_line (raised w) 0 (Some r) 0 (Some line_handled.0)
   poll_is =
@@ -152,8 +150,7 @@ module _ (w : World) (r : Occupant) (y : Ready w) (k : runs_on w 0 ≡ Some r) (
       let t1 = with_masked w.tree.root.name true t in
       let u = (with_caches cs (take_line (raised w) 0 (Some r) 0 (Some c))).world in
       record {
-        root = ap (is_root u.tree) (at_set_here (Some x) w.cpus 0 r k)
-            ∙ eq-eqb w.tree.root.name w.tree.root.name refl;
+        root = rw (at_set_here (Some x) w.cpus 0 r k, eq-eqb w.tree.root.name w.tree.root.name refl);
         alone = λ i h. at_set_other (Some x) w.cpus 0 i h ∙ y.alone i h;
         quiet = ap (λ b. cond b js (raised w).tree.root.pending) (eq-eqb w.tree.root.name w.tree.root.name refl)
             ∙ ap (filter (λ i. not (i == 0))) raised_pending;
@@ -168,11 +165,10 @@ module _ (w : World) (r : Occupant) (y : Ready w) (k : runs_on w 0 ≡ Some r) (
       }
 
   closed : Closed (taken w)
-  closed = subst (λ h. Closed (with_caches (caches_after (raised w) (E.Poll 0)) h).world) (sym poll_is)
-      (closed_by (caches_after (raised w) (E.Poll 0)) line_handled.0)
+  closed = rw poll_is (closed_by (caches_after (raised w) (E.Poll 0)) line_handled.0)
 
   pub closed_outcome : (event (raised w) (E.Poll 0)).outcome ≡ O.Switched r.name w.tree.root.name 32
-  closed_outcome = ap (λ h. h.outcome) poll_is
+  closed_outcome = rw poll_is
 
   pub closed_sound : IsSoundWorld (taken w)
   closed_sound = event-sound (raised w) (E.Poll 0) raised_sound tt
@@ -191,7 +187,7 @@ module _ (w : World) (r : Occupant) (y : Ready w) (k : runs_on w 0 ≡ Some r) (
 
 -- where the root runs at the end of a slot, nothing has to be taken
 pub between_ready : (w : World) → Ready w → root_runs w ≡ true → IsBetweenSlots w
-between_ready w y e = record { sound = y.sound; root = e; alone = y.alone; quiet = y.quiet; takes = y.takes }
+between_ready w y e = assumption
 
 -- ---- two worlds that have the child in common
 
@@ -223,12 +219,12 @@ own_closed d p t w v b = go (root_runs w) refl
   where
     go : (x : Bool) → root_runs w ≡ x → Walked (Slotted d p) w v (closing w t) (closing v t)
     go true e = walked_by (Slotted d p) w v [] [] (closing w t) (closing v t)
-        (ap (λ b. cond b [] (Makes (E.Raise 0) ∷ polling (raised w) t)) e)
-        (ap (λ b. cond b [] (Makes (E.Raise 0) ∷ polling (raised v) t)) (sym (both_tops d p w v b) ∙ e)) (record {
+        (rw e)
+        (rw (← both_tops d p w v b, e)) (record {
           acts = refl;
           next = record {
             left = between_ready w b.left e;
-            right = between_ready v b.right (sym (both_tops d p w v b) ∙ e);
+            right = between_ready v b.right (rw (← both_tops d p w v b) e);
             kid = b.kid;
             guest = b.guest;
           };
@@ -252,23 +248,23 @@ own_closed d p t w v b = go (root_runs w) refl
         in
         let one = closed_outcome w r b.left k m in
         let two = closed_outcome v r b.right k' m' in
-        let tops : w.tree.root.name ≡ v.tree.root.name = root_is_one w.tree s.tree ∙ sym (root_is_one v.tree s'.tree) in
-        let both : (event (raised w) (E.Poll 0)).outcome ≡ (event (raised v) (E.Poll 0)).outcome = one
-        ∙ ap (λ n. O.Switched r.name n 32) tops ∙ sym two in
+        let tops : w.tree.root.name ≡ v.tree.root.name = cc (root_is_one w.tree s.tree, root_is_one v.tree s'.tree) in
+        let both : (event (raised w) (E.Poll 0)).outcome ≡ (event (raised v) (E.Poll 0)).outcome = rw
+        (one, tops, ← two) in
         let i = interrupts_are_inputs (raised w) (raised v) p 0 32 32 sw sv b.kid.low
         (raised_same d p w v s s' b.kid kid' b.guest) (record {
-          below = subst (λ o. In p (ancestry (raised w).tree (occupant_name o))) (sym k) hr;
+          below = rw k hr;
           taken = one ∙ ap (λ o. O.Switched (occupant_name o) w.tree.root.name 32) (sym k);
         }) (record {
-          below = subst (λ o. In p (ancestry (raised v).tree (occupant_name o))) (sym k') hr';
+          below = rw k' hr';
           taken = two ∙ ap (λ o. O.Switched (occupant_name o) v.tree.root.name 32) (sym k');
         }) in
         walked_by (Slotted d p) w v (Makes (E.Raise 0) ∷ polling (raised w) t) (Makes (E.Raise 0) ∷ polling (raised v)
         t)
         (closing w t) (closing v t)
-        (ap (λ b. cond b [] (Makes (E.Raise 0) ∷ polling (raised w) t)) e)
-        (ap (λ b. cond b [] (Makes (E.Raise 0) ∷ polling (raised v) t)) (sym (both_tops d p w v b) ∙ e)) (record {
-          acts = ap (λ o. Makes (E.Raise 0) ∷ Makes (E.Poll 0) ∷ Writes (moved_line t 0 o) ∷ []) both;
+        (rw e)
+        (rw (← both_tops d p w v b, e)) (record {
+          acts = rw both;
           next = record {
             left = closed_between w r b.left k m;
             right = closed_between v r b.right k' m';

@@ -1,6 +1,6 @@
 -- The law of slots, for the children that are built of an image's pages.
 use Rattle.std.proofs.Common.{◌++◌, ◌≡◌, ◌≢◌, ℕ, zero, suc, ◌<◌, ◌&&◌, ◌⊎◌, inl, inr, Bool, true, false, cond}
-use Rattle.std.proofs.Common.{◌≤◌, List, [], ◌∷◌, refl, sym, ap, ap₂, ◌∙◌, subst, Option, Some, None, arith, eq-eqb}
+use Rattle.std.proofs.Common.{◌≤◌, List, [], ◌∷◌, refl, sym, ap₂, subst, Option, Some, None, arith, eq-eqb}
 use Rattle.std.specs.Prelude.{nat_le, nat_lt, slice_index}
 use Rattle.std.specs.List.{AllByRecursion}
 use Rattle.pip_model.specs.Boot.{boot_tree_with, first_user, frame_of_root}
@@ -22,7 +22,6 @@ use Rattle.pip_slots.specs.Images.{AgreeOnChild, HasRooms, ImagesBegin, ImagesSe
 use Rattle.pip_slots.specs.Images.{ImagesSeparateSlots, placed, round_plan}
 use Rattle.pip_slots.specs.declared.time_slot.RoundSlot.{RoundSlot}
 use Rattle.pip_slots.specs.Slots.{IsBetweenSlots, IsRootsChild, IsSameInSlots, rounds}
-use Rattle.pip_native_run.specs.Watching.{is_root}
 use Rattle.pip_slots.specs.declared.time_slot.TimeSlot.{TimeSlot}
 use Rattle.pip_slots.proofs.Slots.{slots_separate}
 use Rattle.pip_slots.proofs.Stages.{Stage, stage_children, stage_handlers, stage_takes}
@@ -63,7 +62,7 @@ ready_stage a n r = stage_children a.frames n n (with_handlers (image_world a) 2
 stage_between : (F n i : ℕ) (w : World) → Stage F n i 256 w → IsBetweenSlots w
 stage_between F n i w h = record {
   sound = h.sound;
-  root = ap (is_root w.tree) h.room.runs ∙ eq-eqb h.room.runner.name w.tree.root.name h.room.root;
+  root = rw (h.room.runs, eq-eqb h.room.runner.name w.tree.root.name h.room.root);
   alone = h.alone;
   quiet = h.quiet;
   takes = stage_takes F n i w h;
@@ -135,8 +134,7 @@ images_agree a b n k low ra rb g =
     let same = named_node w.tree c.node.name s c.node (inr c.there) refl in
     let size : w.tree.frames ≡ a.frames = h.size in
     let inside = λ (f : ℕ) (j : In f (row_pages (node w.tree c.node.name))).
-    subst (λ F. (frame_of_root F (vpage (page_address k)) ≡ Some f) ⊎ (frame_of_root F (vpage (fresh n k 11)) ≡ Some f))
-    size (c.pages f (subst (λ x. In f (row_pages x)) same j)) in
+    rw size at (c.pages f (subst (λ x. In f (row_pages x)) same j)) in
     let twin = twin_ready (Its a b n k low ra rb g) a.frames n ra.most (image_world a) (image_world b)
     (first_stage a n ra) (image_twin a b n k low ra rb g) in (
       c.node.name,

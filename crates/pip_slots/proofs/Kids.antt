@@ -1,10 +1,10 @@
 -- A child of the root: what is above it, where it stays, and which partitions run and take vectors while it runs.
-use Rattle.std.proofs.Common.{◌≡◌, ◌≢◌, ℕ, zero, suc, ◌==◌, ◌⊎◌, inl, inr, Bool, true, false, cond, List, [], ◌∷◌}
+use Rattle.std.proofs.Common.{◌≡◌, ◌≢◌, ℕ, zero, suc, ◌==◌, ◌⊎◌, inl, inr, Bool, true, false, List, [], ◌∷◌}
 use Rattle.std.proofs.Common.{refl, sym, ap, ◌∙◌, subst, Option, Some, None, eq-eqb}
 use Rattle.std.specs.Prelude.{find}
 use Rattle.std.proofs.lemmas.Bool.{cases_eq, false_from_ne_true}
 use Rattle.pip_base.specs.declared.types.Ctx.{Ctx}
-use Rattle.pip_model.specs.Deliver.{nearest_above, nearest_among, nearest_taker, taker_or}
+use Rattle.pip_model.specs.Deliver.{nearest_among, nearest_taker, taker_or}
 use Rattle.pip_model.specs.Handlers.{handler}
 use Rattle.pip_model.specs.Lists.{In, has}
 use Rattle.pip_model.specs.Local.{IsAside}
@@ -42,9 +42,9 @@ kid_of w d p s c =
     let same = named_node w.tree p s.tree c.node (inr f.0) c.name in
     record {
       name = subst (IsName w.tree) c.name (name_in c.node (nodes w.tree) (inr f.0));
-      up = ap (λ x. x.up) same ∙ f.1;
-      born = ap (λ x. x.born) same ∙ f.2;
-      low = λ e. not_root w.tree s.tree c.node f.0 (sym e ∙ sym c.name);
+      up = rw (same, f.1);
+      born = rw (same, f.2);
+      low = λ e. not_root w.tree s.tree c.node f.0 (cc (c.name));
     }
 
 -- in a tree that agrees below it, it is that child, too
@@ -53,8 +53,8 @@ kid_same d p t u s r k a =
     let same = node_alike t u p s r a p (own_line t s p k.name) in
     record {
       name = name_after p t u s r k.name a;
-      up = sym (ap (λ x. x.up) same) ∙ k.up ∙ (root_is_one t s ∙ sym (root_is_one u r));
-      born = sym (ap (λ x. x.born) same) ∙ k.born;
+      up = rw (← same, k.up, root_is_one t s, ← root_is_one u r);
+      born = rw (← same, k.born);
       low = not_top t u s r p k.low;
     }
 
@@ -62,7 +62,7 @@ kid_same d p t u s r k a =
 pub kid_left : (d p : ℕ) (t u : Tree) → IsSound t → IsSound u → Kid d p t → LeavesTree p t u → Kid d p u
 kid_left d p t u s r k l = record {
   name = own_name p t u l k.name;
-  up = sym (ap (λ x. x.up) l.own) ∙ k.up ∙ (root_is_one t s ∙ sym (root_is_one u r));
+  up = sym (ap (λ x. x.up) l.own) ∙ k.up ∙ (cc (root_is_one t s, root_is_one u r));
   born = sym (ap (λ x. x.born) l.own) ∙ k.born;
   low = not_top t u s r p k.low;
 }
@@ -75,9 +75,9 @@ module _ (d p : ℕ) (t : Tree) (s : IsSound t) (k : Kid d p t) where
   pub kid_line : (a : ℕ) → In a (ancestry t p) → (a ≡ p) ⊎ (a ≡ t.root.name)
   kid_line a h =
       let f = node_found t p k.name in
-      elim (line_parent t s a (node t p) kid_other (subst (λ q. In a (ancestry t q)) (sym f.1) h)) [
+      elim (line_parent t s a (node t p) kid_other (rw f.1 h)) [
         | inl e ↦ inl (e ∙ f.1)
-        | inr j ↦ inr (top_alone t s a (subst (λ q. In a (ancestry t q)) k.up j))
+        | inr j ↦ inr (top_alone t s a (rw k.up at j))
       ]
 
   -- what is neither below it nor the root is aside
@@ -86,26 +86,25 @@ module _ (d p : ℕ) (t : Tree) (s : IsSound t) (k : Kid d p t) where
     there = n;
     not_below = nb;
     not_above = λ h. elim (kid_line q h) [
-      | inl e ↦ nb (subst (λ a. In p (ancestry t a)) (sym e) (own_line t s p k.name))
+      | inl e ↦ nb (rw e (own_line t s p k.name))
       | inr e ↦ m e
     ];
   }
 
   root_found : find (λ x. x.name == t.root.name) (nodes t) ≡ Some t.root
-  root_found = ap (λ b. cond b (Some t.root) (find (λ x. x.name == t.root.name) t.others))
-      (eq-eqb t.root.name t.root.name refl)
+  root_found = rw (eq-eqb t.root.name t.root.name refl)
 
   -- the root finds it at its address
   pub kid_found : child_at t t.root.name d ≡ Some (node t p)
-  kid_found = subst (λ b. child_at t t.root.name b ≡ Some (node t p)) k.born
-      (child_is t s t.root.name (node t p).name t.root (node t p) root_found (in_other t s (node t p) kid_other) k.up)
+  kid_found = rw (← k.born) (child_is t s t.root.name (node t p).name t.root (node t p) root_found
+      (in_other t s (node t p) kid_other) k.up)
 
   -- and another child at another address
   pub kid_apart : (b : ℕ) (c : Node) → b ≢ d → child_at t t.root.name b ≡ Some c → c.name ≢ p
   kid_apart b c n e q =
       let f = child_found t t.root.name b c e in
       let same = named_node t p s c (inr f.0) q in
-      n (sym f.2 ∙ sym (ap (λ x. x.born) same) ∙ k.born)
+      n (rw (← f.2, ← same, k.born))
 
 -- ---- what runs
 
@@ -125,9 +124,9 @@ runs_alone w n r alone k m = false_from_ne_true _ (λ z. go (cpu_of_name w.cpus 
     go : (i : ℕ) × (q : Occupant) × (at_cpu w.cpus i ≡ Some q) × (q.name ≡ n) → ⊥
     go (i, q, e, d) = elim (cases_eq i 0) [
       | inl z ↦
-          let u : Some q ≡ Some r = sym (subst (λ i. runs_on w i ≡ Some q) z e) ∙ k in
+          let u : Some q ≡ Some r = sym (rw (← z) e) ∙ k in
           let v : q ≡ r = cc in
-          m (ap (λ x. x.name) (sym v) ∙ d)
+          m (rw (← v, d))
       | inr z ↦ let u = sym (alone i z) ∙ e in cc
     ]
 
@@ -161,5 +160,4 @@ taker_some w q k c s n m e f z =
     let p = parent_line w.tree s.tree q n m in
     let up : In w.tree.root.name (ancestry w.tree x.up) = root_line w.tree s.tree x.up p.1 in
     among_some w k w.tree.root.name c e f x.born (chain w.tree x.up) up
-    (sym (ap (nearest_above w k) (chain-node w.tree s.tree x p.0)) ∙ ap (λ a. nearest_above w k (chain w.tree a)) g.1
-    ∙ z)
+    (cc (chain-node w.tree s.tree x p.0, g.1))

@@ -2,7 +2,7 @@
 -- in the other. Line 0 is raised at step 4. It takes the processor from the first child in the one, and in the other
 -- from the second, which then loads another word from its own block.
 use Rattle.std.proofs.Common.{◌≡◌, ℕ, zero, suc, Bool, true, false, cond, List, [], ◌∷◌, Option, None}
-use Rattle.std.proofs.Common.{Some, refl, ap, subst, arith}
+use Rattle.std.proofs.Common.{Some, refl, arith}
 use Rattle.std.specs.Prelude.{map, negsuc, slice_get, slice_index_or}
 use Rattle.std.specs.List.{AllByRecursion}
 use Rattle.pip_base.specs.declared.outcome.Outcome.{Outcome}
@@ -92,10 +92,8 @@ agree : AgreeOnChild 2 1 beside_a_loop beside_a_fault
 agree = record {
   frames = refl;
   cpus = refl;
-  program = λ g i e l. subst (λ g. image_word 39 beside_a_loop.pages g i ≡ image_word 39 beside_a_fault.pages g i)
-      (some_same 13 g e) refl;
-  handlers = λ g i e l. subst (λ g. image_word 39 beside_a_loop.pages g i ≡ image_word 39 beside_a_fault.pages g i)
-      (some_same 37 g e) refl;
+  program = λ g i e l. rw (← some_same 13 g e) refl;
+  handlers = λ g i e l. rw (← some_same 37 g e) refl;
 }
 
 child : IsRootsChild (ready_world (image_world beside_a_loop) 2) 0x40e000 26
@@ -121,5 +119,5 @@ native_is_not_separate law =
     let same : found 0x400000 ≡ found 0x400004 =
     law beside_a_loop beside_a_fault 2 1 26 10 3 (found 0x400000) (found 0x400004) (omega arith) loop_rooms fault_rooms
     agree refl child loop_found fault_found in
-    let words : ◌≡◌ {A = ℕ} 0x400000 0x400004 = ap word_in same in
+    let words : ◌≡◌ {A = ℕ} 0x400000 0x400004 = cc in
     omega arith

@@ -1,9 +1,8 @@
 -- The law of slots, said of machines: what run_slots says of a plan, and the law of the model.
-use Rattle.std.proofs.Common.{◌≡◌, ℕ, Some, sym, subst}
-use Rattle.pip_io.specs.Taken.{Appends}
+use Rattle.std.proofs.Common.{ℕ}
 use Rattle.pip_model.specs.Acts.{after_acts}
 use Rattle.pip_model.specs.Run.{image_world}
-use Rattle.pip_model.specs.Tree.{Node, child_at, node}
+use Rattle.pip_model.specs.Tree.{Node, node}
 use Rattle.pip_model.specs.Worlds.{IsSoundWorld, World}
 use Rattle.pip_model.proofs.Trees.Children.{child_is}
 use Rattle.pip_model.proofs.Trees.Free.{node_found}
@@ -24,8 +23,7 @@ child_of_kid w d p s k =
     let x : Node = node t p in
     record {
       node = x;
-      child = subst (λ d. child_at t t.root.name d ≡ Some x) k.born
-          (child_is t s.tree t.root.name x.name t.root x (root_found t)
+      child = rw (← k.born) (child_is t s.tree t.root.name x.name t.root x (root_found t)
           (in_other t s.tree x (kid_other d p t s.tree k)) k.up);
       name = (node_found t p k.name).1;
     }
@@ -44,8 +42,8 @@ machines_separate d p m n m2 n2 old new old2 new2 ss t both all run run2 =
     let a = run w both.stands_left in
     let b = run2 v both.stands_right in
     record {
-      wrote = subst (Appends old new) (sym (texts_joined w ss t)) a.text;
-      wrote_there = subst (Appends old2 new2) (sym (texts_joined v ss t)) b.text;
+      wrote = rw (texts_joined w ss t) a.text;
+      wrote_there = rw (texts_joined v ss t) b.text;
       texts = h.texts;
       next = record {
         left = after_acts w (slot_run w ss t);

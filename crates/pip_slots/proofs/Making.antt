@@ -1,11 +1,11 @@
 -- The acts of a slot's steps, made or cut at a line.
-use Rattle.std.proofs.Common.{◌≡◌, ℕ, Bool, false, cond, List, [], ◌∷◌, ◌++◌, sym, ap, ◌∙◌, subst}
+use Rattle.std.proofs.Common.{◌≡◌, ℕ, Bool, false, List, [], ◌∷◌, ◌++◌}
 use Rattle.std.proofs.Common.{◌+◌, append_assoc}
 use Rattle.std.specs.Prelude.{Result, Ok, Err}
 use Rattle.pip_base.specs.declared.outcome.Outcome.{Outcome}
 use Rattle.pip_cpu.specs.Made.{Cut, Made, MadeOrCut}
 use Rattle.pip_cpu.proofs.Makings.{after_event, cut_before, line_alone}
-use Rattle.pip_io.specs.Taken.{Appends, Taken, Wrote}
+use Rattle.pip_io.specs.Taken.{Taken, Wrote}
 use Rattle.pip_io.proofs.Taken.{Appends-trans}
 use Rattle.pip_model.proofs.OnLists.Acts.{after-append, text-append}
 use Rattle.pip_model.specs.Acts.{Act, Makes, Writes, after_acts, text_of}
@@ -24,7 +24,7 @@ event_line : {T X : Type 0} (S : World → Type 0) (old new : Taken) (w : World)
     (f : Outcome → List ℕ) (o : Outcome) → (o ≡ outcome_of w e) × S (world_of w e) → Wrote r old new (f o)
     → MadeOrCut r S old new w (Makes e ∷ Writes (f (outcome_of w e)) ∷ [])
 event_line S old new w r e f o h a = after_event S old new w r e (Writes (f (outcome_of w e)) ∷ [])
-    (line_alone S old new (event w e).world r (f (outcome_of w e)) h.1 (subst (λ o. Wrote r old new (f o)) h.0 a))
+    (line_alone S old new (event w e).world r (f (outcome_of w e)) h.1 (rw (← h.0) a))
 
 pub opened : {T X : Type 0} (S : World → Type 0) (old new : Taken) (w : World) (r : Result T X) (d t : ℕ) (o : Outcome)
     → (o ≡ outcome_of w (slot_entry d)) × S (world_of w (slot_entry d)) → Wrote r old new (call_line t 0 8 o)
@@ -37,8 +37,7 @@ module _ (w : World) (t : ℕ) (here : Bool) (is : here ≡ root_runs w) where
       × S (world_of (world_of w (E.Raise 0)) (E.Poll 0)) → Wrote r old new (moved_line t 0 o)
       → MadeOrCut r S old new w (closing w t)
   closed_taken S old new r o e h a =
-      subst (λ b. MadeOrCut r S old new w (cond b [] (Makes (E.Raise 0) ∷ polling (world_of w (E.Raise 0)) t)))
-      (sym e ∙ is) (after_event S old new w r (E.Raise 0) (polling (world_of w (E.Raise 0)) t)
+      rw (← is, e) (after_event S old new w r (E.Raise 0) (polling (world_of w (E.Raise 0)) t)
       (event_line S old new (world_of w (E.Raise 0)) r (E.Poll 0) (moved_line t 0) o h a))
 
 -- acts that were made, and then more, which are made or cut
@@ -46,22 +45,20 @@ pub made_then : {T X : Type 0} (r : Result T X) (S U : World → Type 0) (old mi
     (xs ys : List Act) → Made S old mid w xs → MadeOrCut r U mid new (after_acts w xs) ys
     → MadeOrCut r U old new w (xs ++ ys)
 made_then (Ok v) S U old mid new w xs ys m h = record {
-  world = subst U (sym (after-append w xs ys)) h.world;
-  text = subst (Appends old new) (sym (text-append xs ys)) (Appends-trans old mid new (text_of xs) (text_of ys) m.text
-      h.text);
+  world = rw (after-append w xs ys) h.world;
+  text = rw (text-append xs ys) (Appends-trans old mid new (text_of xs) (text_of ys) m.text h.text);
 }
 made_then (Err x) S U old mid new w xs ys m h = record {
   front = xs ++ h.front;
   line = h.line;
   rest = h.rest;
-  whole = append_assoc xs h.front (Writes h.line ∷ h.rest) ∙ ap (λ k. xs ++ k) h.whole;
-  world = subst U (sym (after-append w xs h.front)) h.world;
+  whole = rw (append_assoc xs h.front (Writes h.line ∷ h.rest), h.whole);
+  world = rw (after-append w xs h.front) h.world;
   part = h.part;
   missing = h.missing;
   split = h.split;
   some = h.some;
-  text = subst (Appends old new)
-      (sym (ap (λ k. k ++ h.part) (text-append xs h.front) ∙ append_assoc (text_of xs) (text_of h.front) h.part))
+  text = rw (text-append xs h.front, append_assoc (text_of xs) (text_of h.front) h.part)
       (Appends-trans old mid new (text_of xs) (text_of h.front ++ h.part) m.text h.text);
 }
 

@@ -4,7 +4,6 @@ use Rattle.std.proofs.Common.{ap}
 use Rattle.std.proofs.Common.{◌∙◌, subst, Option, Some, None, List, arith, eq-eqb, eqb-true}
 use Rattle.std.specs.Prelude.{is_none, slice_set}
 use Rattle.std.proofs.lemmas.Bool.{cases_eq, ne_eqb}
-use Rattle.pip_base.specs.declared.outcome.Outcome.TheVariants as O
 use Rattle.pip_base.specs.declared.outcome.Status.{Status}
 use Rattle.pip_base.specs.declared.outcome.Status.TheVariants as S
 use Rattle.pip_base.specs.declared.types.Ctx.{Ctx}
@@ -19,8 +18,6 @@ use Rattle.pip_model.specs.Sound.{IsSound, IsWord}
 use Rattle.pip_model.specs.Switching.{node_name, parent_of, reply_unless, target_node, with_zeros, yield_happens}
 use Rattle.pip_model.specs.Switching.{yield_refusals, yield_to, yielded_tree}
 use Rattle.pip_model.specs.Tree.{Node, Tree, ancestry, child_at, is_place, node}
-use Rattle.pip_model.specs.Turn.{call_line}
-use Rattle.pip_model.specs.Acts.{Makes, Writes}
 use Rattle.pip_model.specs.Worlds.{Happened, IsSoundWorld, World, running, runs_on, with_caches}
 use Rattle.pip_model.specs.declared.processors.Occupant.{Occupant}
 use Rattle.pip_model.proofs.Calls.Add.{child_found}
@@ -112,14 +109,14 @@ module _ (p d n : ℕ) (w : World) (r : Occupant) (cs : List Places) (s : IsSoun
       let u = sym (at_set_here _ w.cpus 0 r k) ∙ e in inl (name_of _ z u ∙ q)
     where
       name_of : (x z : Occupant) → Some x ≡ Some z → z.name ≡ x.name
-      name_of x z u = let v : x ≡ z = cc in ap (λ y. y.name) (sym v)
-  runs_by None None q z e = let u : Some r ≡ Some z = sym k ∙ e in let v : r ≡ z = cc in
-      inl (ap (λ y. y.name) (sym v) ∙ q)
+      name_of x z u = let v : x ≡ z = cc in rw (← v)
+  runs_by None None q z e = let u : Some r ≡ Some z = cc in let v : r ≡ z = cc in
+      inl (rw (← v, q))
   runs_by None (Some c) q z e =
       let x : Occupant = record { name = n; ctx = c } in
-      let u : Some x ≡ Some z = sym (at_set_here (Some x) w.cpus 0 r k) ∙ e in
+      let u : Some x ≡ Some z = rw (← at_set_here (Some x) w.cpus 0 r k) e in
       let v : x ≡ z = cc in
-      inr (ap (λ y. y.name) (sym v))
+      inr (rw (← v))
 
 pub ready_opened : (p : ℕ) (w u : World) → Ready w → Opened p w u → IsSoundWorld u → Ready u
 ready_opened p w u y x s = record {
@@ -167,7 +164,7 @@ module _ (p : ℕ) (w v u u' : World) (s : IsSoundWorld w) (s' : IsSoundWorld v)
 root_off : (p : ℕ) (u : World) → IsSoundWorld u → p ≢ u.tree.root.name
     → ((z : Occupant) → runs_on u 0 ≡ Some z → z.name ≡ u.tree.root.name)
     → (z : Occupant) → runs_on u 0 ≡ Some z → In p (ancestry u.tree z.name) → ⊥
-root_off p u s m on z e h = m (top_alone u.tree s.tree p (subst (λ a. In p (ancestry u.tree a)) (on z e) h))
+root_off p u s m on z e h = m (top_alone u.tree s.tree p (rw (on z e) at h))
 
 -- what the yield into p comes to, by its alignment and p's handler
 abbrev made : ℕ → ℕ → World → Occupant → Bool → Option Ctx → Happened
@@ -201,15 +198,11 @@ entry_made d p w r s alone kid k q n0 n1 =
         ∷ [])) (yield_happens w 0 r (words_of d) n (handler w.tree n 63))
 
     target : target_node w.tree r.name d ≡ Some (node w.tree p)
-    target = ap (λ n. target_node w.tree n d) q
-        ∙ ap (λ b. cond b (parent_of w.tree w.tree.root.name) (cond (d == 1) (Some (node w.tree w.tree.root.name))
-        (child_at w.tree w.tree.root.name d))) (ne_eqb d 0 n0)
-        ∙ ap (λ b. cond b (Some (node w.tree w.tree.root.name)) (child_at w.tree w.tree.root.name d)) (ne_eqb d 1 n1)
-        ∙ kid_found d p w.tree s.tree kid
+    target = rw (q, ne_eqb d 0 n0, ne_eqb d 1 n1, kid_found d p w.tree s.tree kid)
 
     off : has (running w) (node w.tree p).name ≡ false
     off = runs_alone w (node w.tree p).name r alone k
-        (λ e. kid.low (sym (node_found w.tree p kid.name).1 ∙ sym e ∙ q))
+        (λ e. kid.low (cc (sym (node_found w.tree p kid.name).1)))
 
 record EnteredAlike (p : ℕ) (a b : Happened) : Type 0 where
   outcome : a.outcome ≡ b.outcome
@@ -244,9 +237,9 @@ module _ (d p : ℕ) (w v : World) (r r' : Occupant) (cs cs' : List Places) (s :
           → z.name ≡ w.tree.root.name
       root_named w r k q c z e =
           let x : Occupant = record r { ctx = c } in
-          let u : Some x ≡ Some z = sym (at_set_here (Some x) w.cpus 0 r k) ∙ e in
+          let u : Some x ≡ Some z = rw (← at_set_here (Some x) w.cpus 0 r k) e in
           let v : x ≡ z = cc in
-          ap (λ y. y.name) (sym v) ∙ q
+          rw (← v, q)
 
   entered : (c : Ctx) → IsSoundWorld (with_caches cs (yield_happens w 0 r (words_of d) p (Some c))).world
       → IsSoundWorld (with_caches cs' (yield_happens v 0 r' (words_of d) p (Some c))).world → EnteredAlike p
@@ -261,9 +254,8 @@ module _ (d p : ℕ) (w v : World) (r r' : Occupant) (cs cs' : List Places) (s :
       let on : runs_on u 0 ≡ Some x = at_set_here (Some x) w.cpus 0 r k in
       let on' : runs_on u' 0 ≡ Some x = at_set_here (Some x) v.cpus 0 r' k' in
       record {
-        outcome = ap (λ n. O.Switched n p 63)
-            (q ∙ root_is_one w.tree s.tree ∙ sym (root_is_one v.tree s'.tree) ∙ sym q');
-        guest = same_on p w v u u' s s' su su' kid.name g o o' (on ∙ sym on');
+        outcome = rw (q, root_is_one w.tree s.tree, ← root_is_one v.tree s'.tree, ← q');
+        guest = same_on p w v u u' s s' su su' kid.name g o o' (cc);
         duty = duty_by u su (name_after p w.tree u.tree s.tree su.tree kid.name o.agrees) x refl on;
         duty_there = duty_by u' su' (name_after p v.tree u'.tree s'.tree su'.tree kid'.name o'.agrees) x refl on';
       }
@@ -271,9 +263,9 @@ module _ (d p : ℕ) (w v : World) (r r' : Occupant) (cs cs' : List Places) (s :
       duty_by : (u : World) → IsSoundWorld u → IsName u.tree p → (x : Occupant) → x.name ≡ p → runs_on u 0 ≡ Some x
           → OnDuty p u
       duty_by u su n x e on z ez =
-          let a : Some x ≡ Some z = sym on ∙ ez in
+          let a : Some x ≡ Some z = cc in
           let b : x ≡ z = cc in
-          inr (subst (λ a. In p (ancestry u.tree a)) (sym e ∙ ap (λ y. y.name) b) (own_line u.tree su.tree p n))
+          inr (rw (← b, e) (own_line u.tree su.tree p n))
 
   made_alike : (place : Bool) (h : Option Ctx) → IsSoundWorld (with_caches cs (made d p w r place h)).world
       → IsSoundWorld (with_caches cs' (made d p v r' place h)).world
@@ -297,8 +289,7 @@ pub opened : (p b : ℕ) (w : World) (r : Occupant) → IsSoundWorld w → p ≢
     → Opened p w (event w (slot_entry b)).world
 opened p b w r s m k =
     let q = target_node w.tree r.name b in
-    subst (λ h. Opened p w (with_caches (caches_after w (slot_entry b)) h).world) (sym (call_by w r 0 8 (words_of b) k))
-    (opened_by p b (node_name q) w r (caches_after w (slot_entry b)) s m k
+    rw (call_by w r 0 8 (words_of b) k) (opened_by p b (node_name q) w r (caches_after w (slot_entry b)) s m k
     (first_met (yield_refusals w r.name (words_of b) q)) (handler w.tree (node_name q) 63))
 
 -- the slot of p is opened in two worlds
@@ -320,14 +311,14 @@ own_opened d p t w v b b' kid g wd n0 n1 =
     let two = entry_made d p v r' s' b'.alone kid' k' q' n0 n1
     ∙ ap (made d p v r' place) (sym (handlers w v p s s' g p 63 (own_line w.tree s.tree p kid.name))) in
     let z = made_alike d p w v r r' cs cs' s s' kid kid' g k k' q q' place h
-    (subst (λ x. IsSoundWorld (with_caches cs x).world) one su)
-    (subst (λ x. IsSoundWorld (with_caches cs' x).world) two su') in
+    (rw (← one) su)
+    (rw (← two) su') in
     let y = subst (λ x. EnteredAlike p (with_caches cs x) (event v (slot_entry d))) (sym one)
-    (subst (λ x. EnteredAlike p (with_caches cs (made d p w r place h)) (with_caches cs' x)) (sym two) z) in
+    (rw two z) in
     let o = opened p d w r s kid.low k in
     let o' = opened p d v r' s' kid'.low k' in
     record {
-      acts = ap (λ x. Makes (slot_entry d) ∷ Writes (call_line t 0 8 x) ∷ []) y.outcome;
+      acts = rw y.outcome;
       next = record {
         left = ready_opened p w _ (ready_between w b) o su;
         right = ready_opened p v _ (ready_between v b') o' su';
@@ -356,13 +347,13 @@ target_off d p b t s kid n h = go (b == 0) (b == 1) h
         let f = child_found t t.root.name b c e in
         elim (line_parent t s p c f.0 h) [
           | inl q ↦ kid_apart d p t s kid b c n e (sym q)
-          | inr j ↦ kid.low (top_alone t s p (subst (λ a. In p (ancestry t a)) f.1 j))
+          | inr j ↦ kid.low (top_alone t s p (rw f.1 at j))
         ]
 
     go : (x y : Bool) → In p (ancestry t (node_name (cond x (parent_of t t.root.name)
         (cond y (Some (node t t.root.name)) (child_at t t.root.name b))))) → ⊥
     go true y h = parent (t.root.name == t.root.name) (eq-eqb t.root.name t.root.name refl) h
-    go false true h = kid.low (top_alone t s p (subst (λ x. In p (ancestry t x.name)) (root_node t s) h))
+    go false true h = kid.low (top_alone t s p (rw (root_node t s) at h))
     go false false h = child (child_at t t.root.name b) refl h
 
 -- the slot of another child is opened
@@ -384,13 +375,12 @@ other_opened d p b w bw kid wb n =
           | inl c ↦
               let one : Some r ≡ Some z = sym k ∙ subst (λ i. runs_on w i ≡ Some z) c e in
               let same : r ≡ z = cc in
-              absurd (kid.low (top_alone w.tree s.tree p (subst (λ a. In p (ancestry w.tree a))
-              (ap (λ x. x.name) (sym same) ∙ q) h)))
+              absurd (kid.low (top_alone w.tree s.tree p (rw (← same, q) at h)))
           | inr c ↦ o.cpus i c ∙ e
         ];
         runs_back = λ i z h e. elim (cases_eq i 0) [
-          | inl c ↦ absurd (off z (subst (λ i. runs_on u i ≡ Some z) c e) h)
-          | inr c ↦ sym (o.cpus i c) ∙ e
+          | inl c ↦ absurd (off z (rw (← c) e) h)
+          | inr c ↦ rw (← o.cpus i c) e
         ];
       };
       off = off;
@@ -424,13 +414,13 @@ other_opened d p b w bw kid wb n =
         let cs = caches_after w (slot_entry b) in
         let made = call_by w r 0 8 (words_of b) k in
         let j = runs_by p b (node_name x) w r cs s kid.low k (first_met (yield_refusals w r.name (words_of b) x))
-        (handler w.tree (node_name x) 63) q z (subst (λ h. runs_on (with_caches cs h).world 0 ≡ Some z) made e) in
+        (handler w.tree (node_name x) 63) q z (rw (← made) e) in
         subst (λ n. (z.name ≡ w.tree.root.name) ⊎ (z.name ≡ node_name (target_node w.tree n b))) q j
 
     off : (z : Occupant) → runs_on u 0 ≡ Some z → In p (ancestry u.tree z.name) → ⊥
     off z e h =
         let j = below_before w.tree u.tree p z.name s.tree su.tree kid.name o.agrees h in
         elim (runs z e) [
-          | inl c ↦ kid.low (top_alone w.tree s.tree p (subst (λ a. In p (ancestry w.tree a)) c j))
-          | inr c ↦ target_off d p b w.tree s.tree kid n (subst (λ a. In p (ancestry w.tree a)) c j)
+          | inl c ↦ kid.low (top_alone w.tree s.tree p (rw c at j))
+          | inr c ↦ target_off d p b w.tree s.tree kid n (rw (← c) j)
         ]

@@ -1,13 +1,12 @@
 -- The slot of another child: it leaves p the same, whatever it does.
-use Rattle.std.proofs.Common.{◌≡◌, ◌≢◌, ℕ, ◌+◌, inr, Bool, true, false, cond, [], ◌∷◌, refl, sym}
-use Rattle.std.proofs.Common.{ap, ◌∙◌, subst, Some, arith}
-use Rattle.pip_model.specs.Acts.{Makes, after_acts}
+use Rattle.std.proofs.Common.{◌≡◌, ◌≢◌, ℕ, ◌+◌, inr, Bool, true, false, refl}
+use Rattle.std.proofs.Common.{Some, arith}
+use Rattle.pip_model.specs.Acts.{after_acts}
 use Rattle.pip_model.specs.Events.{Event, IsEvent}
 use Rattle.pip_model.specs.Events as E
 use Rattle.pip_model.specs.Happens.{event}
 use Rattle.pip_model.specs.Lists.{In}
 use Rattle.pip_model.specs.Local.{IsAside, actor, cpu_of}
-use Rattle.pip_model.specs.Poll.{occupant_name}
 use Rattle.pip_model.specs.Sound.{IsWord}
 use Rattle.pip_model.specs.Tree.{ancestry}
 use Rattle.pip_model.specs.Worlds.{IsSoundWorld, World, runs_on}
@@ -19,7 +18,7 @@ use Rattle.pip_guests.specs.Guests.{IsElsewhere, IsElsewhereBy, IsSameGuest, is_
 use Rattle.pip_guests.proofs.Elsewhere.{others_leave_guests_alone, same_trans}
 use Rattle.pip_guests.proofs.Lines.{below_before}
 use Rattle.pip_slots.specs.declared.time_slot.TimeSlot.{TimeSlot}
-use Rattle.pip_slots.specs.Slots.{IsBetweenSlots, after_slot, closing, slot_turns, opening, polling, rest_acts}
+use Rattle.pip_slots.specs.Slots.{IsBetweenSlots, after_slot, closing, slot_turns, opening, rest_acts}
 use Rattle.pip_native_run.specs.Watching.{root_runs}
 use Rattle.pip_slots.proofs.Kids.{Kid, kid_aside, kid_same}
 use Rattle.pip_slots.proofs.Ready.{Ready, ready_own}
@@ -60,15 +59,15 @@ module _ (d p : ℕ) (u : World) (su : IsSoundWorld u) (kid_u : Kid d p u.tree) 
       let s = b.ready.sound in
       let w1 = (event w e).world in
       let s1 = event-sound w e s ev in
-      let q : r.name ≡ actor w e = sym (ap (λ i. occupant_name (runs_on w i)) c ∙ ap occupant_name k) in
+      let q : r.name ≡ actor w e = cc in
       let aside = aside_of d p w b.ready b.kid r k (b.off r k) m in
       let a = others_leave_guests_alone w p e s ev b.kid.name b.kid.low
-      (elsewhere_own p w e o (inr (subst (IsAside w.tree p) q aside))) in
+      (elsewhere_own p w e o (inr (rw (← q) aside))) in
       let agrees = to_trees p w w1 a.same.below in
       record {
-        outcome = ap (λ x. (event x e).outcome) b.same;
+        outcome = rw b.same;
         next = record {
-          same = ap (λ x. (event x e).world) b.same;
+          same = rw b.same;
           ready = ready_own w e r b.ready ev o c k m;
           kid = kid_same d p w.tree w1.tree s.tree s1.tree b.kid agrees;
           guest = same_trans p u w w1 su s s1 kid_u.name b.guest a.same;
@@ -79,8 +78,8 @@ module _ (d p : ℕ) (u : World) (su : IsSoundWorld u) (kid_u : Kid d p u.tree) 
 
   other_inners : (n t : ℕ) (w : World) → Other d p u w w → Walked (Other d p u) w w (slot_turns w n t) (slot_turns w n
       t)
-  other_inners n t w b = inners_walked (Other d p u) (λ w v b. b.ready) (λ w v b. subst Ready b.same b.ready)
-      (λ w v b r k m. subst (λ x. runs_on x 0 ≡ Some r) b.same k) (λ w v b. ap root_runs b.same) other_step n t w w b
+  other_inners n t w b = inners_walked (Other d p u) (λ w v b. b.ready) (λ w v b. rw (← b.same) b.ready)
+      (λ w v b r k m. rw (← b.same) k) (λ w v b. rw b.same) other_step n t w w b
 
 -- after another's slot
 pub record SlotApart (d p : ℕ) (w u : World) : Type 0 where
@@ -97,9 +96,7 @@ other_closed d p t u w v su kid_u b = go (root_runs w) refl
     s = b.ready.sound
 
     go : (x : Bool) → root_runs w ≡ x → SlotApart d p u (after_acts w (closing w t))
-    go true e = subst (λ l. SlotApart d p u (after_acts w l))
-        (sym (ap (λ b. cond b [] (Makes (E.Raise 0) ∷ polling (raised w) t)) e))
-        (record { between = between_ready w b.ready e; kid = b.kid; guest = b.guest })
+    go true e = rw e (record { between = between_ready w b.ready e; kid = b.kid; guest = b.guest })
     go false e =
         let (r, k) = b.ready.runs in
         let m = not_root_runs w r e k in
@@ -113,12 +110,12 @@ other_closed d p t u w v su kid_u b = go (root_runs w) refl
         let aside = kid_aside d p (raised w).tree sr.tree kid1 r.name
         (sr.names_nodes r.name (runs_named (raised w) 0 r sr k)) off m in
         let c = others_leave_guests_alone (raised w) p (E.Poll 0) sr tt kid1.name kid1.low
-        (inr (inr (subst (λ o. IsAside (raised w).tree p (occupant_name o)) (sym k) aside))) in
-        subst (λ l. SlotApart d p u (after_acts w l))
-        (sym (ap (λ b. cond b [] (Makes (E.Raise 0) ∷ polling (raised w) t)) e)) (record {
+        (inr (inr (rw k aside))) in
+        rw e (record {
           between = closed_between w r b.ready k m;
           kid = closed_kid w r b.ready k m d p b.kid;
-          guest = same_trans p u (raised w) (taken w) su sr st kid_u.name
+          guest
+              = same_trans p u (raised w) (taken w) su sr st kid_u.name
               (same_trans p u w (raised w) su s sr kid_u.name b.guest a.same) c.same;
         })
 
@@ -128,15 +125,12 @@ pub other_slot : (d p t : ℕ) (w : World) (x : TimeSlot) → IsBetweenSlots w �
 other_slot d p t w x b kid wb n =
     let w1 = after_acts w (opening w x.child t) in
     let o = other_opened d p x.child w b kid wb n in
-    let start : Other d p w w1 w1 = record {
-      same = refl;
-      ready = o.ready;
-      kid = o.kid;
-      guest = o.guest;
-      off = o.off;
-    } in
+    let start : Other d p w w1 w1 = assumption in
     let z = other_inners d p w b.sound kid x.turns (t + 1) w1 start in
     let w2 = after_acts w1 (slot_turns w1 x.turns (t + 1)) in
     let c = other_closed d p (t + 1 + x.turns) w w2 w2 b.sound kid z.next in
-    subst (SlotApart d p w) (sym (after-append w (opening w x.child t) (rest_acts w1 x.turns (t + 1))
-    ∙ after-append w1 (slot_turns w1 x.turns (t + 1)) (closing w2 (t + 1 + x.turns)))) c
+    rw (
+      after-append w (opening w x.child t) (rest_acts w1 x.turns (t + 1)),
+      after-append w1
+          (slot_turns w1 x.turns (t + 1)) (closing w2 (t + 1 + x.turns)),
+    ) c

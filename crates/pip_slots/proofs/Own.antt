@@ -1,6 +1,6 @@
 -- The slot of a child of the root, in two worlds that have this child in common: each event of its subtree, even one
 -- after which control is with the root, is answered alike, and the child is the same again.
-use Rattle.std.proofs.Common.{◌≡◌, ◌≢◌, ℕ, ◌+◌, ◌*◌, ◌<◌, ◌==◌, ◌&&◌, ◌||◌, ◌⊎◌, inl, inr, Bool, true, false, not, cond}
+use Rattle.std.proofs.Common.{◌≡◌, ◌≢◌, ℕ, ◌+◌, ◌*◌, ◌<◌, ◌==◌, ◌&&◌, ◌||◌, ◌⊎◌, inl, inr, Bool, true, false, not}
 use Rattle.std.proofs.Common.{[], ◌∷◌, refl, sym, ap, ap₂, ◌∙◌, subst, Option, Some, None, arith, eq-eqb}
 use Rattle.std.specs.Prelude.{is_none, nat_le, nat_lt}
 use Rattle.std.proofs.lemmas.Bool.{ne_eqb}
@@ -22,7 +22,6 @@ use Rattle.pip_model.specs.Happens.{access_number, call, event, fault_number, fa
 use Rattle.pip_model.specs.Happens.{what_happens, wrote}
 use Rattle.pip_model.specs.Lists.{In, has}
 use Rattle.pip_model.specs.Local.{actor, cpu_of}
-use Rattle.pip_model.specs.Poll.{occupant_name}
 use Rattle.pip_model.specs.Reach.{Faulted, Place, Reached, reach}
 use Rattle.pip_model.specs.Sound.{IsSound}
 use Rattle.pip_model.specs.Switching.{reply_unless, target_node, yield, yield_happens, yield_to}
@@ -50,7 +49,7 @@ use Rattle.pip_guests.proofs.Elsewhere.{same_sym}
 use Rattle.pip_guests.proofs.Leaving.{guests_are_left_alike}
 use Rattle.pip_guests.proofs.Known.{events_are_known}
 use Rattle.pip_guests.proofs.Asking.{asked_same}
-use Rattle.pip_native_run.specs.Watching.{is_root, root_runs}
+use Rattle.pip_native_run.specs.Watching.{root_runs}
 use Rattle.pip_slots.proofs.Kids.{Kid, kid_left, kid_line, kid_same, runs_alone}
 use Rattle.pip_slots.proofs.Roots.{handles_some, root_node}
 use Rattle.pip_slots.proofs.Ready.{Ready, Runs, fault_small, ready_own, takers}
@@ -67,7 +66,7 @@ duty_kept : (d p : ℕ) (w : World) (e : Event) (r : Occupant) → IsSoundWorld 
     → is_own e ≡ true → cpu_of e ≡ 0 → runs_on w 0 ≡ Some r → In p (ancestry w.tree r.name)
     → OnDuty p (event w e).world
 duty_kept d p w e r s kid ev o c k h = λ z kz. go z kz (event_goes w e r s o k' m z
-    (subst (λ i. runs_on (event w e).world i ≡ Some z) (sym c) kz))
+    (rw c kz))
   where
     u : World
     u = (event w e).world
@@ -76,10 +75,10 @@ duty_kept d p w e r s kid ev o c k h = λ z kz. go z kz (event_goes w e r s o k'
     s' = event-sound w e s ev
 
     k' : runs_on w (cpu_of e) ≡ Some r
-    k' = subst (λ i. runs_on w i ≡ Some r) (sym c) k
+    k' = rw c k
 
     m : r.name ≢ w.tree.root.name
-    m x = kid.low (top_alone w.tree s.tree p (subst (λ a. In p (ancestry w.tree a)) x h))
+    m x = kid.low (top_alone w.tree s.tree p (rw x at h))
 
     l : LeavesTree p w.tree u.tree
     l = leaves_up p r.name w.tree u.tree s.tree s'.tree h (event_moves w e r s o k' m).leaves
@@ -92,20 +91,18 @@ duty_kept d p w e r s kid ev o c k h = λ z kz. go z kz (event_goes w e r s o k'
           | inl i ↦ elim (lines_meet w.tree s.tree p z.name r.name h i) [
             | inl a ↦ inr ((l.lines z.name p (line_top w.tree s.tree z.name r.name i) nz).0 a)
             | inr a ↦ elim (kid_line d p w.tree s.tree kid z.name a) [
-              | inl q ↦ inr (subst (λ a. In p (ancestry u.tree a)) (sym q)
-                  (own_line u.tree s'.tree p (own_name p w.tree u.tree l kid.name)))
-              | inr q ↦ inl (q ∙ root_is_one w.tree s.tree ∙ sym (root_is_one u.tree s'.tree))
+              | inl q ↦ inr (rw q (own_line u.tree s'.tree p (own_name p w.tree u.tree l kid.name)))
+              | inr q ↦ inl (cc (root_is_one w.tree s.tree, root_is_one u.tree s'.tree))
             ]
           ]
           | inr (inl (x, i, up, q)) ↦
               let f = node_found w.tree r.name (line_name w.tree r.name p h) in
               let below : In p (ancestry w.tree x.name) = ancestry_down w.tree s.tree x (node w.tree r.name) i
-              (up ∙ sym f.1) p (subst (λ a. In p (ancestry w.tree a)) (sym f.1) h) in
+              (cc (f.1)) p (rw f.1 h) in
               let there : IsName w.tree z.name = subst (IsName w.tree) q (name_in x (nodes w.tree) (inr i)) in
-              inr ((l.lines z.name p there nz).0 (subst (λ a. In p (ancestry w.tree a)) q below))
+              inr ((l.lines z.name p there nz).0 (rw (← q) below))
           | inr (inr q) ↦
-              let pos = name_positive u.tree s'.tree 0 (subst (IsName u.tree) q nz) in
-              absurd (omega arith)
+              absurd (omega (arith, name_positive u.tree s'.tree 0 (subst (IsName u.tree) q nz)))
         ]
 
 -- above a partition of the subtree, and not in it, is the root alone
@@ -114,7 +111,7 @@ top_of : (d p : ℕ) (t : Tree) (q y : ℕ) → IsSound t → Kid d p t → In p
 top_of d p t q y s kid h i off = elim (lines_meet t s p y q h i) [
   | inl a ↦ absurd (off a)
   | inr a ↦ elim (kid_line d p t s kid y a) [
-    | inl e ↦ absurd (off (subst (λ a. In p (ancestry t a)) (sym e) (own_line t s p kid.name)))
+    | inl e ↦ absurd (off (rw e (own_line t s p kid.name)))
     | inr e ↦ e
   ]
 ]
@@ -144,13 +141,12 @@ module _ (d p cpu : ℕ) (w v : World) (r : Occupant) (s : IsSoundWorld w) (s' :
       go (Some y) (Some y') e e' n n' lv =
           let off : In p (ancestry v.tree y'.to) → ⊥ = λ i.
           let one = taker_alike v w p s' s back x y' i kid'.low r.name h' e' in
-          let two : Some y ≡ Some y' = sym e ∙ one in
+          let two : Some y ≡ Some y' = cc in
           let same : y ≡ y' = cc in
-          lv (subst (λ a. In p (ancestry w.tree a)) (ap (λ z. z.to) (sym same))
-          (line_alike v.tree w.tree p s'.tree s.tree (trees v w p s' s back) y'.to i)) in
+          lv (rw same (line_alike v.tree w.tree p s'.tree s.tree (trees v w p s' s back) y'.to i)) in
           let a = top_of d p w.tree r.name y.to s.tree kid h (taker_in w r.name x y e) lv in
           let b = top_of d p v.tree r.name y'.to s'.tree kid' h' (taker_in v r.name x y' e') off in
-          ap (λ n. O.Switched r.name n x) (a ∙ root_is_one w.tree s.tree ∙ sym (root_is_one v.tree s'.tree) ∙ sym b)
+          rw (a, root_is_one w.tree s.tree, ← root_is_one v.tree s'.tree, ← b)
 
   reached : (va : ℕ) (c : Access) (z : Size) → reach w.tree r.name va c z ≡ reach v.tree r.name va c z
   reached va c z = reach_alike w.tree v.tree r.name s.tree s'.tree (line_name w.tree r.name p h)
@@ -161,7 +157,7 @@ module _ (d p cpu : ℕ) (w v : World) (r : Occupant) (s : IsSoundWorld w) (s' :
       → (load_happens w cpu r va c z (reach w.tree r.name va c z)).outcome
       ≡ (load_happens v cpu r va c z (reach v.tree r.name va c z)).outcome
   loaded_same va c z lv =
-      go (reach w.tree r.name va c z) lv ∙ ap (λ q. (load_happens v cpu r va c z q).outcome) (reached va c z)
+      rw (go (reach w.tree r.name va c z) lv, reached va c z)
     where
       go : (q : Reached) → Leaves w.tree p (load_happens w cpu r va c z q).outcome
           → (load_happens w cpu r va c z q).outcome ≡ (load_happens v cpu r va c z q).outcome
@@ -174,7 +170,7 @@ module _ (d p cpu : ℕ) (w v : World) (r : Occupant) (s : IsSoundWorld w) (s' :
       → (wrote w cpu r va z x (reach w.tree r.name va Store z)).outcome
       ≡ (wrote v cpu r va z x (reach v.tree r.name va Store z)).outcome
   wrote_same va z x lv =
-      go (reach w.tree r.name va Store z) lv ∙ ap (λ q. (wrote v cpu r va z x q).outcome) (reached va Store z)
+      rw (go (reach w.tree r.name va Store z) lv, reached va Store z)
     where
       go : (q : Reached) → Leaves w.tree p (wrote w cpu r va z x q).outcome
           → (wrote w cpu r va z x q).outcome ≡ (wrote v cpu r va z x q).outcome
@@ -186,7 +182,7 @@ module _ (d p cpu : ℕ) (w v : World) (r : Occupant) (s : IsSoundWorld w) (s' :
       → (Leaves w.tree p a.outcome → a.outcome ≡ b.outcome) → Leaves w.tree p (event w e).outcome
       → (event w e).outcome ≡ (event v e).outcome
   by_both e a b one two f lv =
-      ap (λ h. h.outcome) one ∙ f (subst (λ y. Leaves w.tree p y.outcome) one lv) ∙ sym (ap (λ h. h.outcome) two)
+      rw (one, f (subst (λ y. Leaves w.tree p y.outcome) one lv), ← two)
 
 left_outcome : (d p : ℕ) (w v : World) (e : Event) (r : Occupant) → IsSoundWorld w → IsSoundWorld v → Kid d p w.tree
     → Kid d p v.tree → IsSameGuest p w v → IsEvent e → can_fault e ≡ true → runs_on w (cpu_of e) ≡ Some r
@@ -229,7 +225,7 @@ answered_alike w v cpu n n' r a e false true _ _ save i i' = refl
 answered_alike w v cpu n n' r a e false false None _ save i i' = absurd (i refl refl)
 answered_alike w v cpu n n' r a e false false (Some c) None save i i' = absurd (i' refl refl)
 answered_alike w v cpu n n' r a e false false (Some c) (Some c') true i i' = refl
-answered_alike w v cpu n n' r a e false false (Some c) (Some c') false i i' = ap (λ m. O.Switched r.name m a.x1) e
+answered_alike w v cpu n n' r a e false false (Some c) (Some c') false i i' = rw e
 
 low_vector : (x y : ℕ) → (nat_le 256 x || nat_le 257 y) ≡ false → x < 256
 low_vector x y e = grind (arith, nat_tests, e)
@@ -242,9 +238,13 @@ and_false false = refl
 module _ (d p cpu : ℕ) (w : World) (r : Occupant) (a : Five) (s : IsSoundWorld w) (kid : Kid d p w.tree)
     (q : r.name ≡ p) (z : a.x0 ≡ 0) (off : has (running w) w.tree.root.name ≡ false) where
   to_root : target_node w.tree r.name a.x0 ≡ Some w.tree.root
-  to_root = ap₂ (λ n x. target_node w.tree n x) q z
-      ∙ ap (λ b. cond b None (Some (node w.tree (node w.tree p).up))) (ne_eqb p w.tree.root.name kid.low)
-      ∙ ap (λ n. Some (node w.tree n)) kid.up ∙ ap Some (root_node w.tree s.tree)
+  to_root = cc (
+    ap₂ (λ n x. target_node w.tree n x) q z,
+    ne_eqb p w.tree.root.name kid.low,
+    kid.up,
+    root_node w.tree
+        s.tree,
+  )
 
   yield_answered : (yield w cpu r a).outcome ≡ answered w cpu r a w.tree.root.name
       (not (a.x0 == 1) && not (is_place a.x0)) (nat_le 256 a.x1 || nat_le 257 a.x2) false
@@ -282,17 +282,18 @@ asked_outcome d p w v (E.Call cpu number a) r s s' kid kid' g k h off off' hw hv
     (agree_below w.tree v.tree p s.tree s'.tree (trees w v p s s' g) r.name h) a.x2 in
     let far = not (a.x0 == 1) && not (is_place a.x0) in
     let bad = nat_le 256 a.x1 || nat_le 257 a.x2 in
-    ap (λ h. h.outcome) one
-    ∙ yield_answered d p cpu w r a s kid asks.1 asks.2 off
-    ∙ answered_alike w v cpu w.tree.root.name v.tree.root.name r a
-    (root_is_one w.tree s.tree ∙ sym (root_is_one v.tree s'.tree)) far bad
-    (handler w.tree w.tree.root.name a.x1) (handler v.tree v.tree.root.name a.x1)
-    (nat_lt a.x2 256 && not (is_reached (save_place w.tree r.name a.x2)))
-    (λ e. hw a.x1 (low_vector a.x1 a.x2 e)) (λ e. hv a.x1 (low_vector a.x1 a.x2 e))
-    ∙ ap (λ x. answered v cpu r a v.tree.root.name far bad false (handler v.tree v.tree.root.name a.x1)
-    (nat_lt a.x2 256 && not (is_reached x))) place
-    ∙ sym (yield_answered d p cpu v r a s' kid' asks.1 asks.2 off')
-    ∙ sym (ap (λ h. h.outcome) two)
+    rw (
+      one,
+      yield_answered d p cpu w r a s kid asks.1 asks.2 off,
+      answered_alike w v cpu w.tree.root.name
+          v.tree.root.name r a (root_is_one w.tree s.tree ∙ sym (root_is_one v.tree s'.tree)) far bad
+          (handler w.tree w.tree.root.name a.x1) (handler v.tree v.tree.root.name a.x1)
+          (nat_lt a.x2 256 && not (is_reached (save_place w.tree r.name a.x2))) (λ e. hw a.x1 (low_vector a.x1 a.x2 e))
+          (λ e. hv a.x1 (low_vector a.x1 a.x2 e)),
+      place,
+      ← yield_answered d p cpu v r a s' kid' asks.1 asks.2 off',
+      ← two,
+    )
 
 -- what the guest learns of one outcome is the same in both
 learns_alike : (p : ℕ) (w v : World) → IsSoundWorld w → IsSoundWorld v → IsName w.tree p → IsSameGuest p w v
@@ -301,8 +302,7 @@ learns_alike p w v s s' n g (O.Word x) = refl
 learns_alike p w v s s' n g O.Done = refl
 learns_alike p w v s s' n g (O.Reply st x) = refl
 learns_alike p w v s s' n g (O.Switched from to k) =
-    ap (λ b. cond b (Some (O.Switched from to k)) None)
-    (tests_agree (has (ancestry w.tree to) p) (has (ancestry v.tree to) p)
+    rw (tests_agree (has (ancestry w.tree to) p) (has (ancestry v.tree to) p)
     (λ e. in_has p _ (line_alike w.tree v.tree p s.tree s'.tree (trees w v p s s' g) to (has_in p _ e)))
     (λ e. in_has p _ (below_before w.tree v.tree p to s.tree s'.tree n (trees w v p s s' g) (has_in p _ e))))
 learns_alike p w v s s' n g (O.Parked from k) = refl
@@ -341,7 +341,7 @@ event_alike : (d p : ℕ) (w v : World) → Both d p w v → (e : Event) (r : Oc
 event_alike d p w v b e r ev o c k m = elim (events_are_known w p e s kid.low o hb) [
   | inl (inl i) ↦
       let z = inside_same w v p e s s' ev kid.low b.guest i in
-      record { outcome = z.outcome; guest = z.guest }
+      assumption
   | inl (inr i) ↦
       let z = guests_are_left_alike w v p e s s' ev kid.low b.guest i in
       record {
@@ -350,11 +350,11 @@ event_alike d p w v b e r ev o c k m = elim (events_are_known w p e s kid.low o 
       }
   | inr a ↦
       let same = asked_outcome d p w v e r s s' kid kid' b.guest k' h off off' hw hv
-      (subst (λ n. AsksParent p n e) q a) in
+      (rw (← q) a) in
       let z = asked_same w v p e s s' ev kid.name kid.low b.guest (record {
         own = o;
         asks = a;
-        answer = learns_alike p w v s s' kid.name b.guest (event w e).outcome ∙ ap (guest_learns v.tree p) same;
+        answer = rw (learns_alike p w v s s' kid.name b.guest (event w e).outcome, same);
       }) in
       record { outcome = same; guest = z.guest }
 ]
@@ -375,13 +375,13 @@ event_alike d p w v b e r ev o c k m = elim (events_are_known w p e s kid.low o 
     h = below_of d p w v b r k m
 
     k' : runs_on w (cpu_of e) ≡ Some r
-    k' = subst (λ i. runs_on w i ≡ Some r) (sym c) k
+    k' = rw c k
 
     q : actor w e ≡ r.name
-    q = ap occupant_name k'
+    q = rw k'
 
     hb : In p (ancestry w.tree (actor w e))
-    hb = subst (λ a. In p (ancestry w.tree a)) (sym q) h
+    hb = rw q h
 
     there : runs_on v 0 ≡ Some r
     there = b.guest.runs 0 r h k
@@ -421,7 +421,7 @@ both_step d p w v b e r ev o c k m =
     let there = b.guest.runs 0 r h k in
     let h' = line_alike w.tree v.tree p s.tree s'.tree (trees w v p s s' b.guest) r.name h in
     let m' = not_top w.tree v.tree s.tree s'.tree r.name m in
-    let k' : runs_on w (cpu_of e) ≡ Some r = subst (λ i. runs_on w i ≡ Some r) (sym c) k in
+    let k' : runs_on w (cpu_of e) ≡ Some r = rw c k in
     let sw = event-sound w e s ev in
     record {
       outcome = z.outcome;
@@ -447,24 +447,28 @@ both_tops d p w v b = go b.left.runs b.right.runs
     s' = b.right.sound
 
     on : (u : World) (r : Occupant) → runs_on u 0 ≡ Some r → root_runs u ≡ (r.name == u.tree.root.name)
-    on u r k = ap (is_root u.tree) k
+    on u r k = rw k
 
     go : Runs 0 w → Runs 0 v → root_runs w ≡ root_runs v
     go (r, k) (r', k') = elim (b.duty r k) [
       | inr h ↦
-          let u : Some r ≡ Some r' = sym (b.guest.runs 0 r h k) ∙ k' in
+          let u : Some r ≡ Some r' = rw (← b.guest.runs 0 r h k) k' in
           let same : r ≡ r' = cc in
-          on w r k ∙ ap₂ (λ x y. x == y) (ap (λ z. z.name) same)
-          (root_is_one w.tree s.tree ∙ sym (root_is_one v.tree s'.tree)) ∙ sym (on v r' k')
+          rw (
+            on w r k,
+            ap₂ (λ x y. x == y) (ap (λ z. z.name) same)
+                (root_is_one w.tree s.tree ∙ sym (root_is_one v.tree s'.tree)),
+            ← on v r' k',
+          )
       | inl e ↦ elim (b.duty_there r' k') [
         | inl e' ↦
-            on w r k ∙ eq-eqb r.name w.tree.root.name e ∙ sym (eq-eqb r'.name v.tree.root.name e') ∙ sym (on v r' k')
+            rw (on w r k, eq-eqb r.name w.tree.root.name e, ← eq-eqb r'.name v.tree.root.name e', ← on v r' k')
         | inr h ↦
-            let u : Some r ≡ Some r' = sym k ∙ b.guest.runs_back 0 r' h k' in
+            let u : Some r ≡ Some r' = cc (b.guest.runs_back 0 r' h k') in
             let same : r ≡ r' = cc in
             let kid' = both_kid d p w v b in
-            let top : r'.name ≡ v.tree.root.name = ap (λ z. z.name) (sym same) ∙ e ∙ root_is_one w.tree s.tree
-            ∙ sym (root_is_one v.tree s'.tree) in
-            absurd (kid'.low (top_alone v.tree s'.tree p (subst (λ a. In p (ancestry v.tree a)) top h)))
+            let top : r'.name ≡ v.tree.root.name = rw
+            (← same, e, root_is_one w.tree s.tree, ← root_is_one v.tree s'.tree) in
+            absurd (kid'.low (top_alone v.tree s'.tree p (rw top at h)))
       ]
     ]

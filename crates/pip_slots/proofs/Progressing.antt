@@ -1,6 +1,6 @@
 -- The steps within a slot, and the slots of a plan, on their way.
-use Rattle.std.proofs.Common.{◌≡◌, ℕ, suc, ◌+◌, ◌-◌, ◌*◌, ◌<◌, ◌≤◌, List, [], ◌∷◌, ◌++◌, length, drop, refl, sym, ap}
-use Rattle.std.proofs.Common.{◌∙◌, subst, arith, append_assoc}
+use Rattle.std.proofs.Common.{◌≡◌, ℕ, suc, ◌+◌, ◌-◌, ◌*◌, ◌<◌, ◌≤◌, List, [], ◌∷◌, ◌++◌, length, drop, refl, ap}
+use Rattle.std.proofs.Common.{subst, arith, append_assoc}
 use Rattle.std.proofs.Math.Seq.{drop-length}
 use Rattle.std.proofs.Math.Nat.{mul-le-mul_left}
 use Rattle.std.proofs.Math.Path.{fun_ext}
@@ -25,11 +25,13 @@ run_append w (s ∷ ss) rs t =
     let u = next_step s t in
     let more = slot_run v ss u in
     let end : u + plan_steps ss ≡ t + ((s.turns + 2) + plan_steps ss) = omega arith in
-    ap (λ l. acts ++ l) (run_append v ss rs u)
-    ∙ sym (append_assoc acts more (slot_run (after_acts v more) rs (u + plan_steps ss)))
-    ∙ ap (λ x. (acts ++ more) ++ slot_run (after_acts v more) rs x) end
-    ∙ ap (λ x. (acts ++ more) ++ slot_run x rs (t + ((s.turns + 2) + plan_steps ss)))
-    (sym (after-append w acts more))
+    rw (
+      run_append v ss rs u,
+      ← append_assoc acts more (slot_run (after_acts v more) rs (u + plan_steps ss)),
+      end,
+      ←
+          after-append w acts more,
+    )
 
 -- ---- what is left, and the part of it that is next
 
@@ -40,40 +42,40 @@ module _ (R : (World → List Act) → Type 0) where
   inners_first n t r =
       let a : n ≡ n - 0 = omega arith in
       let b : t ≡ t + 0 = omega arith in
-      subst (λ m. R (λ v. slot_turns v m (t + 0))) a (subst (λ x. R (λ v. slot_turns v n x)) b r)
+      rw (← a) (subst (λ x. R (λ v. slot_turns v n x)) b r)
 
   pub inners_next : (n t k : ℕ) → k < n → R (λ v. slot_turns v (n - k) (t + k))
       → R (λ v. slot_turn v (t + k) ++ slot_turns (after_acts v (slot_turn v (t + k))) (n - (k + 1)) (t + k + 1))
   inners_next n t k inside r = let e : n - k ≡ suc (n - (k + 1)) = omega arith in
-      subst (λ m. R (λ v. slot_turns v m (t + k))) e r
+      rw e at r
 
   pub inners_rest : (n t k : ℕ) → R (λ v. slot_turns v (n - (k + 1)) (t + k + 1))
       → R (λ v. slot_turns v (n - (k + 1)) (t + (k + 1)))
   inners_rest n t k r = let e : t + k + 1 ≡ t + (k + 1) = omega arith in
-      subst (λ x. R (λ v. slot_turns v (n - (k + 1)) x)) e r
+      rw (← e) r
 
   -- the slots of a plan
   pub slots_next : (ss : List TimeSlot) (i t : ℕ) (s : TimeSlot) → drop i ss ≡ s ∷ drop (suc i) ss
       → R (λ v. slot_run v (drop i ss) t)
       → R (λ v. slot_acts v s t ++ slot_run (after_acts v (slot_acts v s t)) (drop (suc i) ss) (next_step s t))
-  slots_next ss i t s here r = subst (λ l. R (λ v. slot_run v l t)) here r
+  slots_next ss i t s here r = rw here at r
 
   pub slots_rest : (ss : List TimeSlot) (i t : ℕ) (s : TimeSlot) → R (λ v. slot_run v (drop (suc i) ss) (next_step s t))
       → R (λ v. slot_run v (drop (i + 1) ss) (t + (s.turns + 2)))
   slots_rest ss i t s r = let e : suc i ≡ i + 1 = omega arith in
-      subst (λ j. R (λ v. slot_run v (drop j ss) (next_step s t))) e r
+      rw (← e) r
 
   -- rounds of them
   pub rounds_first : (ss : List TimeSlot) (c : ℕ) → R (λ v. slot_run v (rounds ss c) 0)
       → R (λ v. slot_run v (rounds ss (c - 0)) 0)
-  rounds_first ss c r = let a : c ≡ c - 0 = omega arith in subst (λ m. R (λ v. slot_run v (rounds ss m) 0)) a r
+  rounds_first ss c r = let a : c ≡ c - 0 = omega arith in rw (← a) r
 
   pub rounds_next : (ss : List TimeSlot) (c j t : ℕ) → j < c → R (λ v. slot_run v (rounds ss (c - j)) t)
       → R (λ v. slot_run v ss t
       ++ slot_run (after_acts v (slot_run v ss t)) (rounds ss (c - (j + 1))) (t + plan_steps ss))
   rounds_next ss c j t inside r =
       let e : c - j ≡ suc (c - (j + 1)) = omega arith in
-      subst R (fun_ext (λ v. run_append v ss (rounds ss (c - (j + 1))) t))
+      rw (← fun_ext (λ v. run_append v ss (rounds ss (c - (j + 1))) t))
       (subst (λ m. R (λ v. slot_run v (rounds ss m) t)) e r)
 
 -- ---- how far a plan is
@@ -130,8 +132,8 @@ module _ (old mid new : Taken) (w : World) (all : List Act) where
       (p : Progress S old mid w all (λ v. slot_run v (rounds ss (c - j)) t)) where
     pub rounds_on : ((v : World) → S v → Made U mid new v (slot_run v ss t)) → (u : ℕ) → u ≡ t + plan_steps ss
         → Progress U old new w all (λ v. slot_run v (rounds ss (c - (j + 1))) u)
-    rounds_on made u e = subst (λ x. Progress U old new w all (λ v. slot_run v (rounds ss (c - (j + 1))) x)) (sym e)
-        (made_on S U (λ v. slot_run v ss t) (λ v. slot_run v (rounds ss (c - (j + 1))) (t + plan_steps ss))
+    rounds_on made u e = rw e (made_on S U (λ v. slot_run v ss t)
+        (λ v. slot_run v (rounds ss (c - (j + 1))) (t + plan_steps ss))
         (rounds_next (Progress S old mid w all) ss c j t inside p) made)
 
     pub rounds_cut : ((v : World) → S v → Cut U mid new v (slot_run v ss t)) → Cut U old new w all
@@ -144,22 +146,22 @@ pub steps_left : (ss : List TimeSlot) (i : ℕ) (s : TimeSlot) → drop i ss ≡
     → plan_steps (drop i ss) ≡ (s.turns + 2) + plan_steps (drop (i + 1) ss)
 steps_left ss i s here =
     let next : suc i ≡ i + 1 = omega arith in
-    ap plan_steps here ∙ ap (λ j. (s.turns + 2) + plan_steps (drop j ss)) next
+    cc
 
 -- all slots are run
 pub slots_end : (S : World → Type 0) (old new : Taken) (w : World) (all : List Act) (ss : List TimeSlot) (i t : ℕ)
     → i ≡ length ss → Progress S old new w all (λ v. slot_run v (drop i ss) t) → Made S old new w all
 slots_end S old new w all ss i t e p = progress_end S old new w all
-    (subst (λ l. Progress S old new w all (λ v. slot_run v l t)) (ap (λ j. drop j ss) e ∙ drop-length ss) p)
+    (rw (e, drop-length ss) at p)
 
 pub none_left : (ss : List TimeSlot) (i : ℕ) → i ≡ length ss → plan_steps (drop i ss) ≡ 0
-none_left ss i e = ap plan_steps (ap (λ j. drop j ss) e ∙ drop-length ss)
+none_left ss i e = rw (e, drop-length ss)
 
 -- all rounds are run
 pub rounds_end : (S : World → Type 0) (old new : Taken) (w : World) (all : List Act) (ss : List TimeSlot) (n t : ℕ)
     → n ≡ 0 → Progress S old new w all (λ v. slot_run v (rounds ss n) t) → Made S old new w all
 rounds_end S old new w all ss n t e p = progress_end S old new w all
-    (subst (λ m. Progress S old new w all (λ v. slot_run v (rounds ss m) t)) e p)
+    (rw e at p)
 
 -- the steps of one round more
 pub one_round_more : (p k c : ℕ) → k < c → p * k + p ≤ p * c

@@ -1,5 +1,5 @@
 -- What holds at each moment of a slot, and that each event of a partition other than the root keeps it.
-use Rattle.std.proofs.Common.{◌≡◌, ◌≢◌, ℕ, ◌+◌, ◌*◌, ◌<◌, true, [], refl, sym, ap, ◌∙◌, subst}
+use Rattle.std.proofs.Common.{◌≡◌, ◌≢◌, ℕ, ◌+◌, ◌*◌, ◌<◌, true, [], refl, ◌∙◌}
 use Rattle.std.proofs.Common.{Option, Some, None, arith}
 use Rattle.pip_base.specs.declared.outcome.Status.{Status}
 use Rattle.pip_base.specs.declared.types.Access.{Access}
@@ -117,26 +117,26 @@ module _ (w : World) (r : Occupant) (takes : (v : ℕ) → v < 256 → nearest_t
   -- what happens leaves something running
   own_runs : (e : Event) → IsEvent e → is_own e ≡ true → runs_on w (cpu_of e) ≡ Some r
       → Runs (cpu_of e) (what_happens w e).world
-  own_runs (E.Load cpu va z) ev o k = subst (λ h. Runs cpu h.world) (sym (load_by w r cpu va z k))
+  own_runs (E.Load cpu va z) ev o k = rw (load_by w r cpu va z k)
       (loaded_runs cpu va Load z (reach w.tree r.name va Load z) k)
-  own_runs (E.Store cpu va z x) ev o k = subst (λ h. Runs cpu h.world) (sym (store_by w r cpu va z x k))
+  own_runs (E.Store cpu va z x) ev o k = rw (store_by w r cpu va z x k)
       (wrote_runs cpu va z x (reach w.tree r.name va Store z) k)
-  own_runs (E.Fetch cpu) ev o k = subst (λ h. Runs cpu h.world) (sym (fetch_by w r cpu k))
+  own_runs (E.Fetch cpu) ev o k = rw (fetch_by w r cpu k)
       (loaded_runs cpu r.ctx.pc Fetch Word (reach w.tree r.name r.ctx.pc Fetch Word) k)
   own_runs (E.Trap cpu v a b) ev o k =
-      subst (λ h. Runs cpu h.world) (sym (trap_by w r cpu v a b k)) (deliver_runs cpu v a b k ev.0)
+      rw (trap_by w r cpu v a b k) (deliver_runs cpu v a b k ev.0)
   own_runs (E.Call cpu number a) ev o k =
-      subst (λ h. Runs cpu h.world) (sym (call_by w r cpu number a k)) (call_runs (call_named number) cpu a k)
+      rw (call_by w r cpu number a k) (call_runs (call_named number) cpu a k)
   own_runs (E.Raise j) ev o k = cc
   own_runs (E.Poll cpu) ev o k = cc
   own_runs (E.SetContext cpu c) ev o k =
-      subst (λ h. Runs cpu h.world) (sym (set_by w r cpu c k)) (runs_put w cpu r _ k)
+      rw (set_by w r cpu c k) (runs_put w cpu r _ k)
 
 -- an event of a partition other than the root keeps all this
 pub ready_own : (w : World) (e : Event) (r : Occupant) → Ready w → IsEvent e → is_own e ≡ true → cpu_of e ≡ 0
     → runs_on w 0 ≡ Some r → r.name ≢ w.tree.root.name → Ready (event w e).world
 ready_own w e r y ev o c k m =
-    let k' : runs_on w (cpu_of e) ≡ Some r = subst (λ i. runs_on w i ≡ Some r) (sym c) k in
+    let k' : runs_on w (cpu_of e) ≡ Some r = rw c k in
     let s' = event-sound w e y.sound ev in
     let a = event_moves w e r y.sound o k' m in
     let n = y.sound.names_nodes r.name (runs_named w 0 r y.sound k) in
@@ -145,9 +145,8 @@ ready_own w e r y ev o c k m =
     let z : Runs (cpu_of e) (event w e).world = own_runs w r (takers w r y k m) e ev o k' in
     record {
       sound = s';
-      alone = λ i h. a.cpus i (λ z. h (z ∙ c)) ∙ y.alone i h;
-      quiet = ap (λ x. x.pending)
-          (leaves_root w.tree (event w e).world.tree r.name y.sound.tree s'.tree m a.leaves) ∙ y.quiet;
+      alone = λ i h. a.cpus i (λ z. h (cc)) ∙ y.alone i h;
+      quiet = rw (leaves_root w.tree (event w e).world.tree r.name y.sound.tree s'.tree m a.leaves, y.quiet);
       takes = takes_kept w.tree (event w e).world.tree y.sound.tree s'.tree keeps y.takes;
-      runs = subst (λ i. Runs i (event w e).world) c z;
+      runs = rw (← c) z;
     }

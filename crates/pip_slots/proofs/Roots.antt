@@ -7,11 +7,11 @@ use Rattle.std.proofs.lemmas.Bool.{both_ways, cases_Bool, false_from_ne_true}
 use Rattle.pip_base.specs.declared.types.Access.TheVariants.{Load}
 use Rattle.pip_base.specs.declared.types.Ctx.{Ctx}
 use Rattle.pip_base.specs.declared.types.Size.TheVariants.{Word}
-use Rattle.pip_model.specs.Handlers.{block_at, context_in, context_reached, handler, handler_at, is_reached}
+use Rattle.pip_model.specs.Handlers.{context_in, handler, is_reached}
 use Rattle.pip_model.specs.Handlers.{saved_to, written_block}
 use Rattle.pip_model.specs.Lists.{In, has}
 use Rattle.pip_model.specs.Reach.{Alignment, Faulted, Hidden, Place, Reached, Right, Unmapped, is_misaligned, reach}
-use Rattle.pip_model.specs.Reach.{reach_by_row, right, word_reached}
+use Rattle.pip_model.specs.Reach.{reach_by_row, right}
 use Rattle.pip_model.specs.Sound.{IsSound}
 use Rattle.pip_model.specs.Tree.{Node, Row, Tree, ancestry, config, held_pages, hidden, node, nodes, on_nodes, row_at}
 use Rattle.pip_model.specs.Tree.{row_pages, vpage, word_of}
@@ -57,8 +57,7 @@ root_node t s = named_node t t.root.name s t.root (inl refl) refl
 -- what the root reaches at an address, by its own rows
 root_reach : (t : Tree) → IsSound t → (va : ℕ) → reach t t.root.name va Load Word
     ≡ cond (is_misaligned va Word) (Faulted Alignment) (reach_by_row t va Load (row_at t.root.rows (vpage va)))
-root_reach t s va = ap (λ x. cond (is_misaligned va Word) (Faulted Alignment)
-    (reach_by_row t va Load (row_at x.rows (vpage va)))) (root_node t s)
+root_reach t s va = rw (root_node t s)
 
 module _ (t u : Tree) (s : IsSound t) (r : IsSound u) (k : KeepsRoot t u) where
   -- a page that it lent to nobody is hidden no more than it was
@@ -83,16 +82,12 @@ module _ (t u : Tree) (s : IsSound t) (r : IsSound u) (k : KeepsRoot t u) where
       go false false p q e =
           let d : b.frame ≡ g = cc in
           let off = hidden_kept b.frame (λ z. h (subst (IsLent t) d z)) p in
-          ap (λ x. cond x (Faulted Hidden) (cond (not (bit_and (right Load) b.rights == right Load)) (Faulted Right)
-          (Place b.frame (va % 4096 / 4)))) off
-          ∙ ap (λ y. cond y (Faulted Right) (Place b.frame (va % 4096 / 4))) q ∙ e
+          rw (off, q, e)
 
   reach_root : (va g i : ℕ) → (IsLent t g → ⊥) → reach t t.root.name va Load Word ≡ Place g i
       → reach u u.root.name va Load Word ≡ Place g i
   reach_root va g i h e =
-      root_reach u r va
-      ∙ ap (λ l. cond (is_misaligned va Word) (Faulted Alignment) (reach_by_row u va Load (row_at l (vpage va)))) k.rows
-      ∙ go (is_misaligned va Word) (sym (root_reach t s va) ∙ e)
+      rw (root_reach u r va, k.rows, go (is_misaligned va Word) (sym (root_reach t s va) ∙ e))
     where
       go : (b : Bool) → cond b (Faulted Alignment) (reach_by_row t va Load (row_at t.root.rows (vpage va))) ≡ Place g i
           → cond b (Faulted Alignment) (reach_by_row u va Load (row_at t.root.rows (vpage va))) ≡ Place g i
@@ -119,11 +114,8 @@ module _ (t u : Tree) (s : IsSound t) (r : IsSound u) (k : KeepsRoot t u) where
         h = z.h;
         j = z.j;
         table = table;
-        names = ap (λ q. block_at u u.root.name (word_reached u q)) table
-            ∙ ap (λ b. fits_block b (reach u u.root.name b Load Word)) word
-            ∙ ap (fits_block a) (place ∙ sym z.place)
-            ∙ sym (ap (λ q. block_at t t.root.name (word_reached t q)) z.table) ∙ z.names ∙ ap Some (sym word);
-        place = ap (λ b. reach u u.root.name b Load Word) word ∙ place;
+        names = cc (z.place, z.table, z.names);
+        place = rw (word, place);
         table_unlent = unlent_kept z.g z.table_unlent;
         block_unlent = unlent_kept z.h z.block_unlent;
       }
@@ -135,7 +127,7 @@ module _ (t u : Tree) (s : IsSound t) (r : IsSound u) (k : KeepsRoot t u) where
 pub handles_some : (t : Tree) (v : ℕ) → HandlesAlone t v → (c : Ctx) × (handler t t.root.name v ≡ Some c)
 handles_some t v z = (
   context_in (word_of (t.words z.h)) z.j,
-  ap (handler_at t t.root.name) z.names ∙ ap (context_reached t) z.place,
+  rw (z.names, z.place),
 )
 
 -- ---- what keeps it
@@ -143,18 +135,22 @@ handles_some t v z = (
 -- a change below another partition leaves the root's node
 pub leaves_root : (t u : Tree) (q : ℕ) → IsSound t → IsSound u → q ≢ t.root.name → LeavesTree q t u → u.root ≡ t.root
 leaves_root t u q s r m l = let o = (l.outside t.root).0 (inl refl, (λ h. m (top_alone t s q h))) in
-    same_name u u.root t.root r (inl refl) o.0 (root_is_one u r ∙ sym (root_is_one t s))
+    same_name u u.root t.root r (inl refl) o.0 (cc (root_is_one u r, root_is_one t s))
 
 -- a change below another partition
 pub leaves_keeps : (t u : Tree) (q : ℕ) → IsSound t → IsSound u → IsName t q → q ≢ t.root.name → LeavesTree q t u
     → KeepsRoot t u
 leaves_keeps t u q s r n m l = record {
-  name = ap (λ x. x.name) root;
-  rows = ap (λ x. x.rows) root;
-  config = ap config root;
+  name = rw root;
+  rows = rw root;
+  config = rw root;
   lent = lent;
-  words = λ g i h. ap (λ f. word_of f i) (l.words g
-      (λ j. h (node t q, kid, In-append_right g (config (node t q)) (row_pages (node t q)) j)));
+  words = λ g i h. rw (l.words g (λ j. h (
+    node t q,
+    kid,
+    In-append_right g (config (node t q)) (row_pages (node t q))
+        j,
+  )));
 }
   where
     kid : In (node t q) t.others
@@ -169,7 +165,7 @@ leaves_keeps t u q s r n m l = record {
           let (z, a, d, o) = ancestry_over u r x (inr i) q (has_in q _ e) in
           let same : node u q ≡ z = named_node u q r z a d in
           let held : In g (held_pages z) = elim o [
-            | inl b ↦ subst (λ y. In g (held_pages y)) (sym b) j
+            | inl b ↦ rw b j
             | inr b ↦ In-append_right g (config z) (row_pages z) (holds_up u g r z x b j)
           ] in
           (node t q, kid, subst (λ y. In g y) (ap held_pages (sym same) ∙ sym (ap held_pages l.own)) held)

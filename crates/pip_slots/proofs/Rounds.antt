@@ -6,7 +6,7 @@ use Rattle.pip_slots.specs.declared.time_slot.RoundSlot.{RoundSlot}
 
 one_more : (xs : List RoundSlot) (x : RoundSlot) → round_steps (xs ++ x ∷ []) ≡ round_steps xs + (x.turns + 2)
 one_more [] x = omega arith
-one_more (y ∷ xs) x = let h = one_more xs x in omega arith
+one_more (y ∷ xs) x = omega (arith, one_more xs x)
 
 pub turn_steps : (n turns : ℕ) → round_steps (in_turn n turns) ≡ n * (turns + 2)
 turn_steps zero turns = omega arith

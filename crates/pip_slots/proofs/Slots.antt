@@ -26,7 +26,7 @@ use Rattle.pip_slots.proofs.Walk.{Walked, inners_walked}
 address_at : (d p : ℕ) (t : Tree) → IsSound t → Kid d p t → (d ≢ 0) × (d ≢ 1)
 address_at d p t s k = (
   (λ e. let r = row_found t.root (vpage va) x.base.descriptor.frame (l.placed x.base.descriptor (inl refl)) in
-      (s.tables t.root (inl refl)).first r.0 r.1 (r.2 ∙ ap vpage (at ∙ e))),
+      (s.tables t.root (inl refl)).first r.0 r.1 (rw (r.2, at, e))),
   (λ e. let r = sym (ap (λ a. a % 4096) (at ∙ e)) ∙ l.aligned x.base.descriptor (inl refl) in absurd (omega (
     arith,
     r,
@@ -50,8 +50,7 @@ walked_then : (R S : World → World → Type 0) (w v : World) (xs ys xs' ys' : 
     → Walked S (after_acts w xs) (after_acts v ys) xs' ys' → Walked S w v (xs ++ xs') (ys ++ ys')
 walked_then R S w v xs ys xs' ys' a b = record {
   acts = ap₂ (λ x y. x ++ y) a.acts b.acts;
-  next = subst (λ x. S x (after_acts v (ys ++ ys'))) (sym (after-append w xs xs'))
-      (subst (S (after_acts (after_acts w xs) xs')) (sym (after-append v ys ys')) b.next);
+  next = rw (after-append w xs xs') (subst (S (after_acts (after_acts w xs) xs')) (sym (after-append v ys ys')) b.next);
 }
 
 -- a slot of a child and its number of turns
@@ -77,7 +76,7 @@ own_slot : (d p t : ℕ) (w v : World) (x : TimeSlot) → Slotted d p w v → Is
 own_slot d p t w v x b wd e =
     let a = address_at d p w.tree b.left.sound.tree b.kid in
     subst (λ c. Walked (Slotted d p) w v (body c x.turns t w) (body c x.turns t v)) (sym e)
-    (own_body d p t x.turns w v b (subst IsWord e wd) a.0 a.1)
+    (own_body d p t x.turns w v b (rw (← e) wd) a.0 a.1)
 
 -- another's slot leaves both worlds with the child in common
 other_slots : (d p t : ℕ) (w v : World) (x : TimeSlot) → Slotted d p w v → IsWord x.child → x.child ≢ d
@@ -114,7 +113,7 @@ pub record RunAlike (d p t : ℕ) (w v : World) (ss : List TimeSlot) : Type 0 wh
 after_both : (d p : ℕ) (w v : World) (xs ys xs' ys' : List Act)
     → Slotted d p (after_acts (after_acts w xs) xs') (after_acts (after_acts v ys) ys')
     → Slotted d p (after_acts w (xs ++ xs')) (after_acts v (ys ++ ys'))
-after_both d p w v xs ys xs' ys' h = subst (λ x. Slotted d p x (after_acts v (ys ++ ys'))) (sym (after-append w xs xs'))
+after_both d p w v xs ys xs' ys' h = rw (after-append w xs xs')
     (subst (Slotted d p (after_acts (after_acts w xs) xs')) (sym (after-append v ys ys')) h)
 
 pub run_alike : (d p : ℕ) (ss : List TimeSlot) (t : ℕ) (w v : World) → Slotted d p w v
@@ -125,16 +124,15 @@ run_alike d p (x ∷ ss) t w v b all = elim (cases_eq x.child d) [
       let z = own_slot d p t w v x b all.0 e in
       let h = run_alike d p ss (next_step x t) (after_slot w x t) (after_slot v x t) z.next all.1 in
       record {
-        acts = on w true (eq-eqb x.child d e) ∙ ap₂ (λ a b. a ++ b) z.acts h.acts
-            ∙ sym (on v true (eq-eqb x.child d e));
-        texts = each (λ own. ap (λ l. Some (text_of l)) z.acts) h.texts;
+        acts = cc (on w true (eq-eqb x.child d e), ap₂ (λ a b. a ++ b) z.acts h.acts, on v true (eq-eqb x.child d e));
+        texts = each (λ own. cc (z.acts)) h.texts;
         next = after_both d p w v (slot_acts w x t) (slot_acts v x t) _ _ h.next;
       }
   | inr n ↦
       let h = run_alike d p ss (next_step x t) (after_slot w x t) (after_slot v x t) (other_slots d p t w v x b all.0 n)
       all.1 in
       record {
-        acts = on w false (ne_eqb x.child d n) ∙ h.acts ∙ sym (on v false (ne_eqb x.child d n));
+        acts = cc (on w false (ne_eqb x.child d n), h.acts, on v false (ne_eqb x.child d n));
         texts = each (λ own. absurd (n own)) h.texts;
         next = after_both d p w v (slot_acts w x t) (slot_acts v x t) _ _ h.next;
       }
@@ -143,8 +141,7 @@ run_alike d p (x ∷ ss) t w v b all = elim (cases_eq x.child d) [
     on : (w : World) (c : Bool) → (x.child == d) ≡ c → acts_of_child d w (x ∷ ss) t
         ≡ cond c (slot_acts w x t ++ acts_of_child d (after_slot w x t) ss (next_step x t))
         (acts_of_child d (after_slot w x t) ss (next_step x t))
-    on w c e = ap (λ c. cond c (slot_acts w x t ++ acts_of_child d (after_slot w x t) ss (next_step x t))
-        (acts_of_child d (after_slot w x t) ss (next_step x t))) e
+    on w c e = rw e
 
     -- the first slot and those after it
     each : (x.child ≡ d → Some (text_of (slot_acts w x t)) ≡ Some (text_of (slot_acts v x t)))
@@ -153,10 +150,10 @@ run_alike d p (x ∷ ss) t w v b all = elim (cases_eq x.child d) [
         ≡ slice_get (slot_texts (after_slot v x t) ss (next_step x t)) j)
         → (j : ℕ) (s : TimeSlot) → slice_get (x ∷ ss) j ≡ Some s → s.child ≡ d
         → slice_get (slot_texts w (x ∷ ss) t) j ≡ slice_get (slot_texts v (x ∷ ss) t) j
-    each first later zero s at own = first (ap (λ y. y.child) (some_same x s at) ∙ own)
+    each first later zero s at own = first (rw (some_same x s at, own))
     each first later (suc j) s at own = later j s at own
 
 pub slots_separate : SlotsSeparate
 slots_separate w v d p ss t b b' c g all =
     let h = run_alike d p ss t w v (record { left = b; right = b'; kid = kid_of w d p b.sound c; guest = g }) all in
-    record { acts = h.acts; lines = ap text_of h.acts; texts = h.texts; guest = h.next.guest }
+    search

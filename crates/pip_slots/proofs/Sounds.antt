@@ -1,6 +1,6 @@
 -- A child that is built leaves the world sound, since each of the stores and calls that build it does.
-use Rattle.std.proofs.Common.{◌≡◌, ℕ, zero, suc, ◌+◌, ◌≤◌, ◌<◌, inl, inr, true, false, not, cond, List, length, refl}
-use Rattle.std.proofs.Common.{sym, ap, ap₂, ◌∙◌, subst, Some, arith}
+use Rattle.std.proofs.Common.{◌≡◌, ℕ, zero, suc, ◌+◌, ◌≤◌, ◌<◌, inl, inr, true, false, cond, List, length, refl}
+use Rattle.std.proofs.Common.{sym, ap₂, Some, arith}
 use Rattle.pip_base.specs.declared.types.Size.TheVariants.{Word}
 use Rattle.pip_model.specs.AddVAddr.{add_vaddr}
 use Rattle.pip_model.specs.Answers.{Five}
@@ -18,7 +18,7 @@ use Rattle.pip_model.proofs.Events.Soundness.{event-sound}
 use Rattle.pip_parent.specs.declared.wants.Want.{Want}
 use Rattle.pip_parent.specs.Built.{lacks_right, lists_more}
 use Rattle.pip_parent.specs.Pool.{first_five, pool_at}
-use Rattle.pip_parent.specs.Stages.{CanLink, IsBuilder, built_world, link_caches, link_words, met_world, replying}
+use Rattle.pip_parent.specs.Stages.{CanLink, IsBuilder, built_world, link_caches, link_words, replying}
 use Rattle.pip_parent.specs.Stages.{tabled_world, value_of, world_after_answer, world_before}
 use Rattle.pip_parent.specs.Wants.{is_bad, need, opened_before, opens, pages_used, place, want_at}
 use Rattle.pip_parent.proofs.Counting.{place_opens, place_within}
@@ -38,9 +38,9 @@ sound_call : (c : MemoryCall) (number : ℕ) (a : Five) → call_named number �
     → (w : World) → IsSoundWorld w → (r : Occupant) → runs_on w 0 ≡ Some r
     → IsSoundWorld (world_after_answer c w 0 r (answer c w r.name a))
 sound_call c number a e ev w s r k =
-    subst IsSoundWorld (ap₂ (λ n o. (with_caches (by_runner w.caches o
-    (λ r. cond (empties n w r.name a) (all_emptied w.caches) w.caches)) (on_running w 0 o (λ r. call n w 0 r a))).world)
-    e k) (event-sound w (E.Call 0 number a) s ev)
+    rw (← ap₂ (λ n o. (with_caches (by_runner w.caches o
+    (λ r. cond (empties n w r.name a) (all_emptied w.caches) w.caches))
+    (on_running w 0 o (λ r. call n w 0 r a))).world) e k) (event-sound w (E.Call 0 number a) s ev)
 
 module _ (w : World) (r : Occupant) (pool : List ℕ) (ws : List Want) (b : IsBuilder w 0 r pool)
     (room : need ws ≤ length pool) (words : (k : ℕ) → k < length pool → IsWord (pool_at pool k))
@@ -72,7 +72,7 @@ module _ (w : World) (r : Occupant) (pool : List ℕ) (ws : List Want) (b : IsBu
       (link_caches v.tree v.caches 0 q.name pool first n))
   linked first stores within v s q k zero l can = s
   linked first stores within v s q k (suc n) l can =
-      subst IsSoundWorld (link_next v q 0 pool first n k (can n (omega arith)))
+      rw (← link_next v q 0 pool first n k (can n (omega arith)))
       (event-sound (with_words v (link_words v.tree q.name pool first n)
       (link_caches v.tree v.caches 0 q.name pool first n))
       (E.Store 0 (pool_at pool (first + n)) Word (pool_at pool (suc (first + n))))
@@ -145,20 +145,20 @@ module _ (w : World) (r : Occupant) (pool : List ℕ) (ws : List Want) (b : IsBu
               ),
             ),
           ),
-        ) u (subst IsSoundWorld (sym e) table_sound) x k)
+        ) u (rw e table_sound) x k)
         (λ u e x k.
-        let here : Some x ≡ Some (replying r 0 (value_of ws i)) = sym k ∙ ap (λ v. runs_on v 0) e ∙ there in
+        let here : Some x ≡ Some (replying r 0 (value_of ws i)) = rw (← k, e, there) in
         let same : x ≡ replying r 0 (value_of ws i) = cc in
         sym (ap₂ (λ v n. is_accepted (add_vaddr v.tree n (pool_at pool (place ws i)) (pool_at pool 0)
-        (want_at ws i).va (want_at ws i).rights).status) e (ap (λ x. x.name) same))) refl in
-        subst (λ c. IsSoundWorld (met_world w 0 r pool ws i c)) (m.0 ∙ ap not may) m.1
+        (want_at ws i).va (want_at ws i).rights).status) e (rw same))) refl in
+        rw (m.0, may) at m.1
 
 -- the pages of a pool have words for addresses
 pool_word : (n i k : ℕ) → n ≤ 8 → i < n → k < 13 → IsWord (pool_at (pool_of n i) k)
 pool_word n i k most low l =
     let (m, e, p) = pool_page n i k l in
     let b = below m p in
-    subst IsWord (sym e) (omega arith)
+    rw e (omega arith)
   where
     below : (m : ℕ) → IsPlace n i k m → m < 200
     below m (inl (a, f)) = omega arith

@@ -1,8 +1,8 @@
 -- The stages of a machine whose root gives itself handlers and builds children.
 use Rattle.std.proofs.Common.{◌≡◌, ◌≢◌, ℕ, zero, suc, ◌+◌, ◌*◌, ◌/◌, ◌%◌, ◌≤◌, ◌<◌, ◌==◌, ◌⊎◌, inl, inr}
-use Rattle.std.proofs.Common.{true, false, not, cond, List, [], refl, sym, ap, ◌∙◌, subst, Option, Some, None, arith}
-use Rattle.std.proofs.Common.{eq-eqb, eqb-true, bit_and}
-use Rattle.std.specs.Prelude.{is_none, option_map, unwrap_or}
+use Rattle.std.proofs.Common.{true, false, cond, List, [], refl, sym, ap, ◌∙◌, subst, Option, Some, None, arith}
+use Rattle.std.proofs.Common.{eq-eqb, eqb-true}
+use Rattle.std.specs.Prelude.{is_none}
 use Rattle.std.proofs.lemmas.Bool.{cases_eq, false_from_ne_true, ne_eqb}
 use Rattle.pip_base.specs.declared.types.Access.TheVariants.{Load, Store}
 use Rattle.pip_base.specs.declared.types.Size.TheVariants.{Word}
@@ -12,14 +12,13 @@ use Rattle.pip_model.specs.Boot.{frame_of_root}
 use Rattle.pip_model.specs.Cache.{Places, places_after_access}
 use Rattle.pip_model.specs.Events.{IsEvent}
 use Rattle.pip_model.specs.Events as E
-use Rattle.pip_model.specs.Handlers.{block_at, is_reached}
-use Rattle.pip_model.specs.Happens.{by_runner, on_running, with_word, wrote}
+use Rattle.pip_model.specs.Happens.{with_word}
 use Rattle.pip_model.specs.Lists.{In, has}
-use Rattle.pip_model.specs.Reach.{Alignment, Faulted, Hidden, Place, Right, reach, reach_by_row, word_reached}
+use Rattle.pip_model.specs.Reach.{Place, reach}
 use Rattle.pip_model.specs.Sound.{IsSound, IsWord}
-use Rattle.pip_model.specs.Tree.{Node, Row, Tree, config, free, held_pages, hidden, holder, is_free_row, node, nodes}
+use Rattle.pip_model.specs.Tree.{Node, Row, Tree, config, free, hidden, holder, nodes}
 use Rattle.pip_model.specs.Tree.{row_at, row_pages, vpage, word_of}
-use Rattle.pip_model.specs.Worlds.{IsSoundWorld, World, runs_on, with_caches}
+use Rattle.pip_model.specs.Worlds.{IsSoundWorld, World, runs_on}
 use Rattle.pip_model.specs.declared.processors.Occupant.{Occupant}
 use Rattle.pip_model.proofs.OnLists.Members.{Distinct-right, In-append_left, In-append_right, In-map, find_in, has_in}
 use Rattle.pip_model.proofs.OnLists.Members.{same_at_key}
@@ -50,13 +49,13 @@ rows_differ t s u v a b e f n d =
     let y = find_in (λ r. r.at == v) b t.root.rows f in
     let apart = Distinct-right (config t.root) (row_pages t.root) (s.pages_apart t.root (inl refl)).pages in
     let same = same_at_key (λ r. r.frame) a b t.root.rows apart x.0 y.0 d in
-    n (sym (eqb-true a.at u x.1) ∙ ap (λ r. r.at) same ∙ eqb-true b.at v y.1)
+    n (rw (← eqb-true a.at u x.1, same, eqb-true b.at v y.1))
 
 -- a page of the root that is free is no other partition's
 free_unheld : (t : Tree) → IsSound t → (v : ℕ) (b : Row) → row_at t.root.rows v ≡ Some b
     → free t t.root.name v ≡ true → IsUnheld t t.root.name b.frame
 free_unheld t s v b e f = no_holder-unheld t t.root.name b.frame (none (holder t t.root.name b.frame)
-    (subst (λ o. is_free_row t t.root.name o ≡ true) (ap (λ x. row_at x.rows v) (root_node t s) ∙ e) f))
+    (rw (root_node t s, e) at f))
   where
     none : (c : Option Node) → is_none c ≡ true → c ≡ None
     none None e = refl
@@ -64,11 +63,11 @@ free_unheld t s v b e f = no_holder-unheld t t.root.name b.frame (none (holder t
 
 unheld_unlent : (t : Tree) → IsSound t → (g : ℕ) → IsUnheld t t.root.name g → IsUnlent t g
 unheld_unlent t s g u x i h = elim (root_is_top t s x (inr i)) [
-  | inl e ↦ not_root t s x i (ap (λ y. y.name) e)
+  | inl e ↦ not_root t s x i (rw e)
   | inr a ↦
       let (c, j, up, o) = child_on_way t t.root x a in
       u c j up (elim o [
-        | inl e ↦ subst (λ y. In g (held_pages y)) (sym e) h
+        | inl e ↦ rw e h
         | inr b ↦ In-append_right g (config c) (row_pages c) (holds_up t g s c x b h)
       ])
 ]
@@ -78,7 +77,7 @@ unlent_seen : (t : Tree) → IsSound t → (g : ℕ) → In g (row_pages t.root)
 unlent_seen t s g r u = false_from_ne_true _ (λ z. go (hidden_from t g z))
   where
     go : (x : Node) × In x (nodes t) × In g (config x) → ⊥
-    go (x, inl e, c) = not_both t g s t.root (inl refl) (subst (λ y. In g (config y)) e c) r
+    go (x, inl e, c) = not_both t g s t.root (inl refl) (rw (← e) c) r
     go (x, inr j, c) = u x j (In-append_left g (config x) (row_pages x) c)
 
 -- the root loads from it
@@ -86,26 +85,23 @@ loads_at : (t : Tree) → IsSound t → (v : ℕ) (b : Row) → row_at t.root.ro
     → IsUnlent t b.frame → (a : ℕ) → vpage a ≡ v → a % 4 ≡ 0
     → reach t t.root.name a Load Word ≡ Place b.frame (a % 4096 / 4)
 loads_at t s v b e q u a at four =
-    ap (λ x. cond (not (a % 4 == 0)) (Faulted Alignment) (reach_by_row t a Load (row_at x.rows (vpage a))))
-    (root_node t s)
-    ∙ ap (λ c. cond (not c) (Faulted Alignment) (reach_by_row t a Load (row_at t.root.rows (vpage a))))
-    (eq-eqb (a % 4) 0 four)
-    ∙ ap (reach_by_row t a Load) (ap (row_at t.root.rows) at ∙ e)
-    ∙ ap (λ x. cond x (Faulted Hidden) (cond (not (bit_and 1 b.rights == 1)) (Faulted Right)
-    (Place b.frame (a % 4096 / 4)))) (unlent_seen t s b.frame
-    (In-map (λ r. r.frame) b t.root.rows (find_in (λ r. r.at == v) b t.root.rows e).0) u)
-    ∙ ap (λ r. cond (not (bit_and 1 r == 1)) (Faulted Right) (Place b.frame (a % 4096 / 4))) q
+    rw (
+      root_node t s,
+      eq-eqb (a % 4) 0 four,
+      at,
+      e,
+      unlent_seen t s b.frame
+          (In-map (λ r. r.frame) b t.root.rows (find_in (λ r. r.at == v) b t.root.rows e).0) u,
+      q,
+    )
 
 -- ---- a word of a page
 
 word_here : (t : Tree) (g i x k : ℕ) → word_of ((with_word t g i x).words g) k ≡ cond (k == i) x (word_of (t.words g) k)
-word_here t g i x k = ap (λ b. word_of (cond b (Some (λ j. cond (j == i) x (word_of (t.words g) j))) (t.words g)) k)
-    (eq-eqb g g refl)
+word_here t g i x k = rw (eq-eqb g g refl)
 
 word_there : (t : Tree) (g i x h k : ℕ) → h ≢ g → word_of ((with_word t g i x).words h) k ≡ word_of (t.words h) k
-word_there t g i x h k n = ap (λ b. word_of (cond b (Some (λ j. cond (j == i) x (word_of (t.words g) j))) (t.words h))
-    k)
-    (ne_eqb h g n)
+word_there t g i x h k n = rw (ne_eqb h g n)
 
 -- what a store of the root makes of a world with other words and caches
 pub store_on : (w : World) (words : ℕ → Option (ℕ → ℕ)) (cs : List Places) (r : Occupant) (va x g j : ℕ)
@@ -113,12 +109,7 @@ pub store_on : (w : World) (words : ℕ → Option (ℕ → ℕ)) (cs : List Pla
     → after_store (with_words w words cs) va x ≡ with_words w (with_word (record w.tree { words = words }) g j x).words
     (places_after_access w.tree cs 0 r.name va Store Word)
 store_on w words cs r va x g j runs at =
-    ap (λ o. (with_caches (by_runner cs o (λ r. places_after_access w.tree cs 0 r.name va Store Word))
-    (on_running (with_words w
-    words cs) 0 o (λ r. wrote (with_words w words cs) 0 r va Word x (reach w.tree r.name va Store Word)))).world)
-    runs
-    ∙ ap (λ z. (with_caches (places_after_access w.tree cs 0 r.name va Store Word)
-    (wrote (with_words w words cs) 0 r va Word x z)).world) at
+    rw (runs, at)
 
 -- ---- a stage
 
@@ -166,13 +157,13 @@ module _ (F : ℕ) where
 
   -- the root's row at an open page
   row_there : (t : Tree) → IsSound t → (v : ℕ) (o : IsOpen t v) → row_at t.root.rows v ≡ Some o.row
-  row_there t s v o = ap (λ x. row_at x.rows v) (sym (root_node t s)) ∙ o.found
+  row_there t s v o = rw (← root_node t s, o.found)
 
   -- a store of the root to an open page
   module _ (n i m : ℕ) (w : World) (h : Stage n i m w) (v : ℕ) (o : IsOpen w.tree v) (va x : ℕ) (at : vpage va ≡ v)
       (four : va % 4 ≡ 0) (word : IsWord va) (small : IsWord x) where
     pub reaches : reach w.tree h.room.runner.name va Store Word ≡ Place o.row.frame (va % 4096 / 4)
-    reaches = ap (λ p. reach w.tree p va Store Word) h.room.root ∙ reached w.tree h.sound.tree v o va at four
+    reaches = cc (h.room.root, reached w.tree h.sound.tree v o va at four)
 
     stored : after_store w va x ≡ with_words w (with_word w.tree o.row.frame (va % 4096 / 4) x).words
         (places_after_access w.tree w.caches 0 h.room.runner.name va Store Word)
@@ -183,8 +174,7 @@ module _ (F : ℕ) where
 
     stage_stored : (m' : ℕ) → HasTable m' (with_words w (with_word w.tree o.row.frame (va % 4096 / 4) x).words
         (places_after_access w.tree w.caches 0 h.room.runner.name va Store Word)) → Stage n i m' (after_store w va x)
-    stage_stored m' table = subst (Stage n i m') (sym stored) (stage_words n i m w
-        (with_word w.tree o.row.frame (va % 4096 / 4) x).words
+    stage_stored m' table = rw stored (stage_words n i m w (with_word w.tree o.row.frame (va % 4096 / 4) x).words
         (places_after_access w.tree w.caches 0 h.room.runner.name va Store Word) h
         (subst IsSoundWorld stored stored_sound) m' table)
 
@@ -216,16 +206,15 @@ module _ (F : ℕ) where
       table : HasTable (suc m) (with_words w (with_word w.tree o.row.frame (va % 4096 / 4) 0xfffff400).words
           (places_after_access w.tree w.caches 0 h.room.runner.name va Store Word))
       table b k e less =
-          let same : Some b ≡ Some o.row = sym e ∙ row_there w.tree h.sound.tree 0xfffff o in
+          let same : Some b ≡ Some o.row = cc (row_there w.tree h.sound.tree 0xfffff o) in
           let row : b ≡ o.row = cc in
           ap (λ y. word_of ((with_word w.tree o.row.frame (va % 4096 / 4) 0xfffff400).words y.frame) k) row
           ∙ word_here w.tree o.row.frame (va % 4096 / 4) 0xfffff400 k
           ∙ ap (λ j. cond (k == j) 0xfffff400 (word_of (w.tree.words o.row.frame) k)) place
           ∙ elim (cases_eq k m) [
-            | inl q ↦ ap (λ c. cond c 0xfffff400 (word_of (w.tree.words o.row.frame) k)) (eq-eqb k m q)
+            | inl q ↦ rw (eq-eqb k m q)
             | inr q ↦
-                ap (λ c. cond c 0xfffff400 (word_of (w.tree.words o.row.frame) k)) (ne_eqb k m q)
-                ∙ ap (λ y. word_of (w.tree.words y.frame) k) (sym row) ∙ h.table b k e (omega arith)
+                rw (ne_eqb k m q, ← row, h.table b k e (omega arith))
           ]
 
   pub stage_handlers : (n m : ℕ) (w : World) → m ≤ 256 → Stage n 0 0 w → Stage n 0 m (with_handlers w m)
@@ -243,7 +232,7 @@ module _ (F : ℕ) where
       let inside : k < pages_taken n = omega arith in
       let at : vpage (page_address k) ≡ 1024 + k = omega arith in
       open_page w.tree h.sound.tree n k most h.room.frames inside
-      (subst (λ v. free w.tree w.tree.root.name v ≡ true) at (h.room.left k (inr (omega arith, inside))))
+      (rw (← at) (h.room.left k (inr (omega arith, inside))))
 
   -- and that of its program
   pub program_open : (n i m : ℕ) (w : World) → n ≤ 8 → i < n → Stage n i m w → IsOpen w.tree (1024 + i)
@@ -251,7 +240,7 @@ module _ (F : ℕ) where
       let inside : i < pages_taken n = omega arith in
       let at : vpage (page_address i) ≡ 1024 + i = omega arith in
       open_page w.tree h.sound.tree n i most h.room.frames inside
-      (subst (λ v. free w.tree w.tree.root.name v ≡ true) at (h.room.left i (inl (omega arith, low))))
+      (rw (← at) (h.room.left i (inl (omega arith, low))))
 
   pub first_stored : (n i : ℕ) (w : World) → n ≤ 8 → i < n → Stage n i 256 w
       → Stage n i 256 (after_store w (fresh n i 11 + 0xfc) 0xfffff400)
@@ -276,12 +265,7 @@ module _ (F : ℕ) where
   page_frame t s p v a o is at =
       let row = row_there t s v o in
       let boot = ap (λ x. x.rows) s.boot_root.same in
-      ap (λ v. frame_of_root t.frames v) at
-      ∙ ap (λ rows. option_map (λ r. r.frame) (row_at rows v)) (sym boot)
-      ∙ ap (option_map (λ r. r.frame)) row
-      ∙ ap (λ x. Some (unwrap_or (option_map (λ r. r.frame) x) 0)) (sym o.found)
-      ∙ ap (λ q. Some (unwrap_or (option_map (λ r. r.frame) (row_at (node t q).rows v)) 0)) (sym is)
-      ∙ ap (λ v. Some (unwrap_or (option_map (λ r. r.frame) (row_at (node t p).rows v)) 0)) (sym at)
+      cc (o.found)
 
   module _ (n i : ℕ) (w : World) (most : n ≤ 8) (low : i < n) (h : Stage n i 256 w) where
     abbrev its : Node
@@ -298,14 +282,20 @@ module _ (F : ℕ) where
 
     made_pages : (g : ℕ) → In g (row_pages its) → (frame_of_root w.tree.frames (vpage (page_address i)) ≡ Some g)
         ⊎ (frame_of_root w.tree.frames (vpage (fresh n i 11)) ≡ Some g)
-    made_pages g (inl e) = inl (page_frame w.tree h.sound.tree h.room.runner.name (1024 + i) (page_address i)
-        (program_open n i 256 w most low h) h.room.root (omega arith) ∙ ap Some (sym e))
-    made_pages g (inr (inl e)) = inr (page_frame w.tree h.sound.tree h.room.runner.name (1024 + (n + 12 * i + 11))
-        (fresh n i 11) (fresh_open n i 256 11 w most low (omega arith) h) h.room.root (omega arith) ∙ ap Some (sym e))
+    made_pages g (inl e) = inl (rw (
+      page_frame w.tree h.sound.tree h.room.runner.name (1024 + i) (page_address i)
+          (program_open n i 256 w most low h) h.room.root (omega arith),
+      ← e,
+    ))
+    made_pages g (inr (inl e)) = inr (rw (
+      page_frame w.tree h.sound.tree h.room.runner.name (1024 + (n + 12 * i + 11))
+          (fresh n i 11) (fresh_open n i 256 11 w most low (omega arith) h) h.room.root (omega arith),
+      ← e,
+    ))
     made_pages g (inr (inr x)) = absurd x
 
     made_table : HasTable 256 made
-    made_table b k e l = ap (λ c. word_of (cond c None (w.tree.words b.frame)) k) off ∙ h.table b k e l
+    made_table b k e l = rw (off, h.table b k e l)
       where
         off : has (config its) b.frame ≡ false
         off = false_from_ne_true _
@@ -314,13 +304,7 @@ module _ (F : ℕ) where
 
     made_children : (j : ℕ) → j < i + 1 → HasChild n j made.tree
     made_children j l = elim (cases_eq j i) [
-      | inl e ↦ subst (λ j. HasChild n j made.tree) (sym e) (record {
-        node = its;
-        there = inl refl;
-        up = h.room.root;
-        born = refl;
-        pages = made_pages;
-      })
+      | inl e ↦ rw e (record { node = its; there = inl refl; up = h.room.root; born = refl; pages = made_pages })
       | inr e ↦
           let c = h.children j (omega arith) in
           record { node = c.node; there = inr c.there; up = c.up; born = c.born; pages = c.pages }
@@ -339,7 +323,7 @@ module _ (F : ℕ) where
 
     pub stage_built : Stage n (i + 1) 256 (with_built w (runs_on w 0) (pool_of n i))
     stage_built =
-        subst (λ o. Stage n (i + 1) 256 (with_built w o (pool_of n i))) (sym h.room.runs) stage_made
+        rw h.room.runs stage_made
 
   pub stage_child : (n i : ℕ) (w : World) → n ≤ 8 → i < n → Stage n i 256 w → Stage n (i + 1) 256 (with_child w n i)
   stage_child n i w most low h = stage_built n i (with_entry w n i) most low (stage_entry n i w most low h)
@@ -348,9 +332,7 @@ module _ (F : ℕ) where
   stage_children n zero w most l h = h
   stage_children n (suc i) w most l h =
       let e : i + 1 ≡ suc i = omega arith in
-      subst (λ j. Stage n j 256 (with_children w n (suc i))) e
-      (stage_child n i (with_children w n i) most (omega arith)
-      (stage_children n i w most (omega arith) h))
+      rw (← e) (stage_child n i (with_children w n i) most (omega arith) (stage_children n i w most (omega arith) h))
 
   -- ---- the root takes all vectors
 
@@ -372,10 +354,8 @@ module _ (F : ℕ) where
         h = o.row.frame;
         j = 256;
         table = table;
-        names = ap (λ q. block_at t t.root.name (word_reached t q)) table
-            ∙ ap (λ a. block_at t t.root.name (Some a)) word
-            ∙ ap (λ q. cond (is_reached q) (Some 0xfffff400) None) block_there ∙ ap Some (sym word);
-        place = ap (λ a. reach t t.root.name a Load Word) word ∙ block_there;
+        names = rw (table, word, block_there, ← word);
+        place = rw (word, block_there);
         table_unlent = u;
         block_unlent = u;
       }

@@ -1,6 +1,6 @@
 -- Two machines whose roots give themselves handlers and build children alike: the partitions are the same, and pages
 -- that had the same words have them still.
-use Rattle.std.proofs.Common.{◌≡◌, ℕ, zero, suc, ◌+◌, ◌*◌, ◌%◌, ◌/◌, ◌≤◌, ◌<◌, ◌==◌, inl, inr, Bool, true, false}
+use Rattle.std.proofs.Common.{◌≡◌, ℕ, zero, suc, ◌+◌, ◌*◌, ◌%◌, ◌/◌, ◌≤◌, ◌<◌, inl, inr, Bool, true, false}
 use Rattle.std.proofs.Common.{cond, List, refl, sym, ap, ◌∙◌, subst, Option, Some, None, arith, eq-eqb}
 use Rattle.std.proofs.lemmas.Bool.{cases_eq, ne_eqb}
 use Rattle.pip_base.specs.declared.types.Access.TheVariants.{Store}
@@ -36,10 +36,13 @@ module _ (G : ℕ → Type 0) where
   twin_store : (w v : World) (r : Occupant) (va x g j : ℕ) → runs_on w 0 ≡ Some r
       → reach w.tree r.name va Store Word ≡ Place g j → Twin G w v → Twin G (after_store w va x) (after_store v va x)
   twin_store w v r va x g j runs at t =
-      subst (λ y. Twin G y (after_store v va x)) (sym (store_on w w.tree.words w.caches r va x g j runs at)) (record {
+      rw (store_on w w.tree.words w.caches r va x g j runs at)
+      (record {
         words = (with_word (record w.tree { words = t.words }) g j x).words;
-        caches = places_after_access w.tree t.caches 0 r.name va Store Word;
-        same = ap (λ u. after_store u va x) t.same ∙ store_on w t.words t.caches r va x g j runs at;
+        caches = places_after_access
+            w.tree t.caches 0 r.name va Store Word;
+        same = ap (λ u. after_store u va x) t.same ∙ store_on w t.words
+            t.caches r va x g j runs at;
         agree = agree;
       })
     where
@@ -47,32 +50,25 @@ module _ (G : ℕ → Type 0) where
           ≡ word_of ((with_word w.tree g j x).words h) i
       agree h i k l = elim (cases_eq h g) [
         | inl e ↦
-            ap (λ b. word_of (cond b (Some (λ n. cond (n == j) x (word_of (t.words g) n))) (t.words h)) i)
-            (eq-eqb h g e)
-            ∙ ap (λ z. cond (i == j) x z) (t.agree g i (subst G e k) l)
-            ∙ sym (ap (λ b. word_of (cond b (Some (λ n. cond (n == j) x (word_of (w.tree.words g) n)))
-            (w.tree.words h)) i) (eq-eqb h g e))
+            cc (eq-eqb h g e, t.agree g i (subst G e k) l, eq-eqb h g e)
         | inr e ↦
-            ap (λ b. word_of (cond b (Some (λ n. cond (n == j) x (word_of (t.words g) n))) (t.words h)) i)
-            (ne_eqb h g e)
-            ∙ t.agree h i k l
-            ∙ sym (ap (λ b. word_of (cond b (Some (λ n. cond (n == j) x (word_of (w.tree.words g) n)))
-            (w.tree.words h)) i) (ne_eqb h g e))
+            cc (ne_eqb h g e, t.agree h i k l, ne_eqb h g e)
       ]
 
   -- both build a child
   twin_built : (n i : ℕ) (w v : World) (r : Occupant) → runs_on w 0 ≡ Some r → Twin G w v
       → Twin G (with_built w (runs_on w 0) (pool_of n i)) (with_built v (runs_on v 0) (pool_of n i))
   twin_built n i w v r runs t =
-      subst (λ o. Twin G (with_built w o (pool_of n i)) (with_built v (runs_on v 0) (pool_of n i))) (sym runs)
-      (subst (λ y. Twin G (with_built w (Some r) (pool_of n i)) (with_built y (runs_on y 0) (pool_of n i)))
-      (sym t.same)
-      (subst (λ o. Twin G (with_built w (Some r) (pool_of n i))
-      (with_built (with_words w t.words t.caches) o (pool_of n i))) (sym runs) (record {
+      rw runs (subst (λ y. Twin G (with_built w (Some r) (pool_of n i)) (with_built y (runs_on y 0) (pool_of n i)))
+      (sym t.same) (subst (λ o. Twin G (with_built w (Some r) (pool_of n i))
+      (with_built (with_words w t.words t.caches) o (pool_of n i))) (sym runs)
+      (record {
         words = words_without gs t.words;
-        caches = caches_before (with_words w t.words t.caches) 0 r.name (pool_of n i) child_wants 2;
+        caches = caches_before (with_words w t.words t.caches) 0 r.name
+            (pool_of n i) child_wants 2;
         same = refl;
-        agree = λ g i k l. go (has gs g) (t.words g) (w.tree.words g) i (t.agree g i k l);
+        agree = λ g i k l. go (has gs g) (t.words g) (w.tree.words g) i
+            (t.agree g i k l);
       })))
     where
       gs : List ℕ
@@ -135,8 +131,9 @@ module _ (G : ℕ → Type 0) where
   -- in two such worlds a partition is the same whose pages are of G
   pub twin_guest : (p : ℕ) (w v : World) → ((g : ℕ) → In g (row_pages (node w.tree p)) → G g) → Twin G w v
       → IsSameGuest p w v
-  twin_guest p w v inside t = subst (IsSameGuest p w) (sym t.same) (record {
-    below = record { nodes = λ x. ((λ h. h), (λ h. h)); words = λ g i j l. t.agree g i (inside g j) l };
+  twin_guest p w v inside t = rw t.same (record {
+    below = record
+        { nodes = λ x. ((λ h. h), (λ h. h)); words = λ g i j l. t.agree g i (inside g j) l };
     runs = λ i r h e. e;
     runs_back = λ i r h e. e;
   })

@@ -1,9 +1,9 @@
 -- In how many steps a plan of slots is run.
-use Rattle.std.proofs.Common.{◌≡◌, ℕ, suc, ◌+◌, ◌-◌, ◌<◌, ◌≤◌, cond, Bool, false, List, [], ◌∷◌, ◌++◌, drop, sym, ◌∙◌}
-use Rattle.std.proofs.Common.{subst, arith}
+use Rattle.std.proofs.Common.{◌≡◌, ℕ, suc, ◌+◌, ◌-◌, ◌<◌, ◌≤◌, Bool, false, List, ◌∷◌, ◌++◌, drop}
+use Rattle.std.proofs.Common.{arith}
 use Rattle.pip_base.specs.declared.outcome.Outcome.TheVariants as O
 use Rattle.pip_lines.proofs.Working.{Working, both_take, working_begun, working_cut, working_on}
-use Rattle.pip_model.specs.Acts.{Act, Makes, after_acts, events_made}
+use Rattle.pip_model.specs.Acts.{Act, after_acts, events_made}
 use Rattle.pip_model.specs.Events as E
 use Rattle.pip_model.specs.Port.{Follows, TakesAtMost, TakesNoMore}
 use Rattle.pip_model.specs.Turn.{world_of}
@@ -11,7 +11,7 @@ use Rattle.pip_model.specs.Work.{events_work}
 use Rattle.pip_model.specs.Worlds.{World}
 use Rattle.pip_native_run.specs.Watching.{root_runs}
 use Rattle.pip_slots.specs.declared.time_slot.TimeSlot.{TimeSlot}
-use Rattle.pip_slots.specs.Slots.{closing, next_step, opening, plan_steps, polling, rest_acts, rounds, slot_acts}
+use Rattle.pip_slots.specs.Slots.{closing, next_step, opening, plan_steps, rest_acts, rounds, slot_acts}
 use Rattle.pip_slots.specs.Slots.{slot_run, slot_turn, slot_turns}
 use Rattle.pip_slots.proofs.Progressing.{inners_first, inners_next, inners_rest, rounds_first, rounds_next, slots_next}
 use Rattle.pip_slots.proofs.Progressing.{slots_rest}
@@ -25,8 +25,7 @@ pub closed_takes : (S T : World → Type 0) (t : ℕ) (here : Bool) (a b c : ℕ
 closed_takes S T t here a b c is e follows raise poll w h =
     let x = raise w h in
     let y = poll (world_of w (E.Raise 0)) (follows w h).1 in
-    subst (λ r. c ≤ a + events_work w (events_made
-    (cond r [] (Makes (E.Raise 0) ∷ polling (world_of w (E.Raise 0)) t)))) (sym e ∙ is w h) (omega arith)
+    rw (← is w h, e) (omega arith)
 
 -- acts of which only the first part was made
 first_takes : (S : World → Type 0) (first more : World → List Act) (a b : ℕ) → TakesNoMore S first a b
@@ -108,7 +107,6 @@ module _ (before now after : ℕ) (w : World) (all : List Act) (S : World → Ty
     pub rounds_work_on : (U : World → Type 0) → ((v : World) → S v → U (after_acts v (slot_run v ss t))) → (u : ℕ)
         → u ≡ t + plan_steps ss → Working U before after w all (λ v. slot_run v (rounds ss (c - (j + 1))) u)
     rounds_work_on U made u e =
-        subst (λ x. Working U before after w all (λ v. slot_run v (rounds ss (c - (j + 1))) x)) (sym e)
-        (working_on S before now after w all (λ v. slot_run v ss t)
-        (λ v. slot_run v (rounds ss (c - (j + 1))) (t + plan_steps ss))
-        takes (rounds_next (Working S before now w all) ss c j t inside p) U made)
+        rw e (working_on S before now after w all (λ v. slot_run v ss t)
+        (λ v. slot_run v (rounds ss (c - (j + 1))) (t + plan_steps ss)) takes
+        (rounds_next (Working S before now w all) ss c j t inside p) U made)

@@ -70,7 +70,8 @@ returns-clause-reads g c =
     let u = runs_said a.limits (part_seen c.read_base.new.part) c.in_ok-at.at in
     let v = marks_said (part_seen c.read_way.new.part) c.in_ok-at-2.at in
     let first : TakesText t u (g.S.Source.history a.joint.now.source.now).left
-    (g.S.Source.history c.read_base.new.joint.source.now).left = rw c.new-part.ensures at c.in_ok-at.ensures.reads.0 in (
+    (g.S.Source.history c.read_base.new.joint.source.now).left = rw c.new-part.ensures at c.in_ok-at.ensures.reads.0
+    in (
       ends_after t v _ _ _ _ (takes_then t u v _ _ _ first c.in_ok-at-2.ensures.reads.0)
           c.in_ok-read_marks.ensures.reads.0,
       c.in_ok-read_marks.ensures.reads.1 ∙ (c.in_ok-at-2.ensures.reads.1 ∙ c.in_ok-at.ensures.reads.1),

@@ -51,8 +51,10 @@ returns-in_err-write_labels g c =
           (part_after _ _ _ (asked_lines k) _ (subst (λ v. Appends (g.K.Sink.history c.write_stops.new.sink).written
           (g.K.Sink.history c.write_stops-2.new.sink).written (flat_map (stop_line (codes " ?")) (stops v)))
           c.as_slice-2.ensures.value c.in_ok-write_stops-2.ensures.wrote)
-          (part_longer _ _ (label_lines k) _ (subst (λ v. AppendsPart (g.K.Sink.history c.write_stops-2.new.sink).written
-          (g.K.Sink.history c.write_labels.new.sink).written (flat_map label_line (labels v))) c.as_slice-3.ensures.value
+          (part_longer _ _ (label_lines k) _ (subst (λ v. AppendsPart (g.K.Sink.history
+          c.write_stops-2.new.sink).written
+          (g.K.Sink.history c.write_labels.new.sink).written (flat_map label_line (labels v)))
+          c.as_slice-3.ensures.value
           c.in_err-write_labels.ensures.wrote))));
       cause = search rules;
     })
@@ -71,7 +73,8 @@ returns g c =
           c.as_slice-2.ensures.value c.in_ok-write_stops-2.ensures.wrote)
           (wrote_of _ _ _ (label_lines k) (last_line k) c.write_last.result
           (subst (λ v. Appends (g.K.Sink.history c.write_stops-2.new.sink).written
-          (g.K.Sink.history c.write_labels.new.sink).written (flat_map label_line (labels v))) c.as_slice-3.ensures.value
+          (g.K.Sink.history c.write_labels.new.sink).written (flat_map label_line (labels v)))
+          c.as_slice-3.ensures.value
           c.in_ok-write_labels.ensures.wrote) (subst (λ t. Wrote c.write_last.result
           (g.K.Sink.history c.write_labels.new.sink).written (g.K.Sink.history c.write_last.new.sink).written
           (line_text (entry_line (Tells t k.numbers)))) (c.as_bytes.ensures.value ∙ c.as_str.ensures.value)

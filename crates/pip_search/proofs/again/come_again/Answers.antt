@@ -1,4 +1,4 @@
-use Rattle.std.proofs.Common.{rules, ◌≡◌, ◌<◌, true, false, length, Some, slice_get, inl, inr, refl, ap, sym, subst}
+use Rattle.std.proofs.Common.{rules, ◌≡◌, ◌<◌, true, false, length, Some, slice_get, inl, inr, refl, ap, sym}
 use Rattle.std.proofs.Common.{◌*◌}
 use Rattle.std.proofs.Common.{◌∙◌, arith}
 use Rattle.std.proofs.lemmas.Bool.{cases_lt}
@@ -22,7 +22,7 @@ loop-place-preserved g c = λ j low.
     inside (search rules) in
     elim (cases_lt j c.loop-place.place) [
       | inl less ↦ c.loop-place.invariant j less
-      | inr most ↦ let is : c.loop-place.place ≡ j = omega arith in subst (IsMarked marks) is here
+      | inr most ↦ let is : c.loop-place.place ≡ j = omega arith in rw (← is) here
     ]
 
 pub returns-then-not-index-clause-again : goal.returns-then-not-index-clause-again
@@ -40,7 +40,7 @@ returns-then-not-index-clause-again g c = λ x stands.
     let all = visit_count z c.requires.closed.searching.keyed in
     let places = e.places ∙ sym all in
     let count = e.count ∙ ap (λ n. n * width) (sym all) in
-    let rows : length marks ≡ length vs = s.count ∙ places in
+    let rows : length marks ≡ length vs = cc (s.count) in
     let inside : c.loop-place.place < length marks = omega (
       arith,
       c.loop-place-test.true,
@@ -71,7 +71,7 @@ returns-clause-again g c = λ x stands.
     let all = visit_count z c.requires.closed.searching.keyed in
     let places = e.places ∙ sym all in
     let count = e.count ∙ ap (λ n. n * width) (sym all) in
-    let rows : length marks ≡ length vs = s.count ∙ places in
+    let rows : length marks ≡ length vs = cc (s.count) in
     comes_again m c.args.start.now z c.requires.closed label width marks rows
     (marked_comes m vs label width c.requires.width targets flags marks e.edges e.flags count places rows
     s.sound s.keeps s.closed)

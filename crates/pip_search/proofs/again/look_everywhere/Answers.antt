@@ -1,24 +1,18 @@
-use Rattle.std.proofs.Common.{◌≡◌, ◌+◌, ℕ, Bool, List, [], ◌∷◌, length, length-append, Some, slice_get}
-use Rattle.std.proofs.Common.{refl, ap, sym, subst, ◌∙◌, arith}
-use Rattle.pip_search.specs.Again.{AreEdges, AreFlags, IsShownAmong}
+use Rattle.std.proofs.Common.{◌≡◌, ℕ, Bool, List, [], ◌∷◌, length, length-append, Some, slice_get}
+use Rattle.std.proofs.Common.{refl, ap, subst, ◌∙◌, arith}
+use Rattle.pip_search.specs.Again.{IsShownAmong}
 use Rattle.pip_search.specs.Keys.{key_of, visits_of}
-use Rattle.pip_search.specs.Summary.{HasOneKey}
-use Rattle.pip_search.specs.Systems.{IsKey}
 use Rattle.pip_search.proofs.Looking.{flags_more, no_edges}
 use Rattle.pip_search.proofs.again.look_everywhere.Goals as goal
 
 pub look_around-requires-clause-key : goal.look_around-requires-clause-key
-look_around-requires-clause-key g c = subst (λ b. IsKey (g.S.System.model b) c.args.start.now)
-    (sym c.loop-i.invariant.base) c.requires.key
+look_around-requires-clause-key g c = rw c.loop-i.invariant.base c.requires.key
 
 pub look_around-requires-clause-one : goal.look_around-requires-clause-one
-look_around-requires-clause-one g c = subst (λ b. HasOneKey (g.S.System.model b)) (sym c.loop-i.invariant.base)
-    c.requires.one
+look_around-requires-clause-one g c = rw c.loop-i.invariant.base c.requires.one
 
 pub look_around-requires-clause-edges : goal.look_around-requires-clause-edges
-look_around-requires-clause-edges g c = subst
-    (λ b. AreEdges (g.S.System.model b) (visits_of c.args.search.now) c.args.width c.loop-i.edges.hashes.items)
-    (sym c.loop-i.invariant.base) c.loop-i.invariant.edges
+look_around-requires-clause-edges g c = rw c.loop-i.invariant.base c.loop-i.invariant.edges
 
 pub loop-i-init : goal.loop-i-init
 loop-i-init g c =
@@ -28,9 +22,9 @@ loop-i-init g c =
       base = refl;
       filed = c.in_ok-edges.ensures.filed;
       edges = no_edges m (visits_of c.args.search.now) c.args.width c.in_ok-edges.edges.hashes.items none;
-      count = let z = ap length none in omega arith;
+      count = omega (arith, ap length none);
       flags = λ j u b at is. absurd (let n = c.new-flags.ensures.items in none_at c.new-flags.result.items j b n is);
-      places = ap length c.new-flags.ensures.items;
+      places = rw c.new-flags.ensures.items;
     }
   where
     none_at : (bs : List Bool) (j : ℕ) (b : Bool) → bs ≡ [] → slice_get bs j ≡ Some b → ⊥
@@ -48,12 +42,10 @@ loop-i-preserved g c =
     record {
       base = own.base ∙ h.base;
       filed = own.filed;
-      edges = subst (λ b. AreEdges (g.S.System.model b) vs c.args.width c.look_around.new.edges.hashes.items) h.base
-          own.edges;
+      edges = rw (← h.base) own.edges;
       count = own.count;
-      flags = subst (AreFlags m vs c.args.label.now c.args.width) (sym c.in_ok-push.ensures.items)
-          (flags_more m vs c.args.label.now c.args.width flags c.loop-i.i shows h.flags h.places (λ u at.
-          subst (λ b. IsShownAmong (g.S.System.model b) (key_of u) c.args.label.now c.args.width shows) h.base
-          (own.flag u at)));
-      places = ap length c.in_ok-push.ensures.items ∙ length-append flags (shows ∷ []) ∙ ap (λ n. n + 1) h.places;
+      flags = rw c.in_ok-push.ensures.items (flags_more m vs c.args.label.now c.args.width flags c.loop-i.i shows
+          h.flags h.places (λ u at. subst (λ b. IsShownAmong (g.S.System.model b) (key_of u) c.args.label.now
+          c.args.width shows) h.base (own.flag u at)));
+      places = rw (c.in_ok-push.ensures.items, length-append flags (shows ∷ []), h.places);
     }

@@ -9,7 +9,7 @@ returns c = λ j.
     let ranks = c.args.ranks.now in
     let e = j * c.args.columns + c.args.column in
     elim (cases_lt e (length ranks)) [
-      | inl low ↦ c.loop-cell.invariant e (omega (arith, low, c.loop-cell-test.false))
-          (mod-mul-add j c.args.columns c.args.column (omega (arith, c.requires)))
+      | inl low ↦ c.loop-cell.invariant e (omega arith)
+          (mod-mul-add j c.args.columns c.args.column (omega arith))
       | inr past ↦ let none : slice_index ranks e ≡ 0 = get_or_past ranks e 0 past in omega arith
     ]

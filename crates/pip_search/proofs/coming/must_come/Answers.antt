@@ -1,4 +1,4 @@
-use Rattle.std.proofs.Common.{◌≡◌, ℕ, ◌*◌, ◌^◌, ◌<◌, ◌≤◌, length, reverse, slice_index, ap, sym, subst, ◌∙◌}
+use Rattle.std.proofs.Common.{◌≡◌, ℕ, ◌*◌, ◌^◌, ◌<◌, ◌≤◌, length, reverse, slice_index, subst}
 use Rattle.std.proofs.Common.{arith}
 use Rattle.pip_search.specs.Comes.{AreFalling, HasEach, PassesRanks, IsWalk, rank_at}
 use Rattle.pip_search.specs.Keys.{visits_of}
@@ -21,25 +21,20 @@ returns-then-all_pass-clause-said g c = λ x stands.
     let classes = c.args.classes.now in
     let label = c.args.label.now in
     let all = visit_count z c.requires.closed.searching.keyed in
-    let few : length vs < 2 ^ 32 = omega (arith, all, c.requires.few) in
-    let count : length targets ≡ length vs * m.choices = e.count ∙ ap (λ n. n * m.choices) (sym all) in
+    let few : length vs < 2 ^ 32 = omega arith in
+    let count : length targets ≡ length vs * m.choices = rw (e.count, ← all) in
     let passed : (e : ℕ) → e < length targets → PassesRanks classes ranks helpers columns m.choices targets e =
-    subst (λ w. (e : ℕ) → e < length targets → PassesRanks classes ranks helpers columns w targets e)
-    c.count-width.ensures
-    (subst (λ ts. (e : ℕ) → e < length ts → PassesRanks classes ranks helpers columns c.count-width.result ts e)
-    c.deref-4.ensures.value
-    (subst (λ hs. (e : ℕ) → e < length c.deref-4.result.now
-    → PassesRanks classes ranks hs columns c.count-width.result c.deref-4.result.now e) c.deref-3.ensures.value
-    (subst (λ rs. (e : ℕ) → e < length c.deref-4.result.now
-    → PassesRanks classes rs c.deref-3.result.now columns c.count-width.result c.deref-4.result.now e)
-    c.deref-2.ensures.value (c.all_pass.ensures c.if-all_pass.true)))) in
+    rw (← c.count-width.ensures) (subst (λ ts. (e : ℕ) → e < length ts → PassesRanks classes ranks helpers columns
+    c.count-width.result ts e) c.deref-4.ensures.value
+    (subst (λ hs. (e : ℕ) → e < length c.deref-4.result.now → PassesRanks classes ranks hs columns c.count-width.result
+    c.deref-4.result.now e) c.deref-3.ensures.value
+    (subst (λ rs. (e : ℕ) → e < length c.deref-4.result.now → PassesRanks classes rs c.deref-3.result.now columns
+    c.count-width.result c.deref-4.result.now e) c.deref-2.ensures.value (c.all_pass.ensures c.if-all_pass.true)))) in
     let own = c.in_ok-counts.ensures in
     let falling : AreFalling m vs label classes ranks helpers (length counts) =
-    subst (AreFalling m vs label classes ranks helpers) (sym own.count)
-    (are_falling m vs label targets e.cut few classes ranks helpers columns count passed) in
+    rw own.count (are_falling m vs label targets e.cut few classes ranks helpers columns count passed) in
     let low : (j d : ℕ) → d < length counts → rank_at ranks (length counts) j d ≤ slice_index counts d =
-    subst (λ n. (j d : ℕ) → d < n → rank_at ranks n j d ≤ slice_index counts d) (sym own.count)
-    (subst (λ rs. (j d : ℕ) → d < columns → rank_at rs columns j d ≤ slice_index counts d)
+    rw own.count (subst (λ rs. (j d : ℕ) → d < columns → rank_at rs columns j d ≤ slice_index counts d)
     c.deref-then-all_pass.ensures.value own.most) in
     must_come m c.args.start.now z c.requires.closed label classes ranks helpers counts c.requires.some falling low x
     stands
@@ -56,19 +51,18 @@ returns-then-is_loop-clause-said g c = λ x stands.
     let classes = c.args.classes.now in
     let label = c.args.label.now in
     let all = visit_count z c.requires.closed.searching.keyed in
-    let few : length vs < 2 ^ 32 = omega (arith, all, c.requires.few) in
+    let few : length vs < 2 ^ 32 = omega arith in
     let own = c.is_loop.ensures in
     let yes = c.if-is_loop.true in
     let inside : place < c.len-count.result = own.place yes in
-    let low : place < length z.visits.items = omega (arith, inside, c.len-count.ensures) in
+    let low : place < length z.visits.items = omega arith in
     let walk : IsWalk targets m.choices place (reverse choices) place =
-    subst (λ w. IsWalk targets w place (reverse choices) place) c.count-width.ensures
-    (subst (λ ts. IsWalk ts c.count-width.result place (reverse choices) place) c.deref-5.ensures.value
-    (subst (λ cs. IsWalk c.deref-5.result.now c.count-width.result place (reverse cs) place) c.deref-6.ensures.value
-    (own.walk yes))) in
-    let some : 0 < length choices = subst (λ cs. 0 < length cs) c.deref-6.ensures.value (own.some yes) in
-    let each : HasEach classes choices = subst (λ cs. HasEach classes cs) c.deref-6.ensures.value (own.each yes) in (
+    rw (← c.count-width.ensures) (subst (λ ts. IsWalk ts c.count-width.result place (reverse choices) place)
+    c.deref-5.ensures.value (subst (λ cs. IsWalk c.deref-5.result.now c.count-width.result place (reverse cs) place)
+    c.deref-6.ensures.value (own.walk yes))) in
+    let some : 0 < length choices = rw (← c.deref-6.ensures.value) (own.some yes) in
+    let each : HasEach classes choices = rw (← c.deref-6.ensures.value) (own.each yes) in (
       low,
       is_avoided m c.args.start.now z c.requires.closed label classes targets e.cut few place
-          (omega (arith, low, all)) choices walk some each x stands,
+          (omega arith) choices walk some each x stands,
     )

@@ -1,7 +1,5 @@
-use Rattle.std.proofs.Common.{inl, inr, refl, ap, sym, subst, length, false, true, ◌≡◌, ◌∙◌}
-use Rattle.std.specs.Prelude.{◌==◌}
+use Rattle.std.proofs.Common.{inl, inr, refl, sym, false, true, ◌≡◌, ◌∙◌}
 use Rattle.pip_search.specs.Keys.{labels}
-use Rattle.pip_search.specs.Naming.{IsAbsent, hash_of}
 use Rattle.pip_search.specs.declared.found.Found.{Found}
 use Rattle.pip_search.proofs.Keeping.{has_label, is_absent, is_there}
 use Rattle.pip_search.proofs.Walking.{named_push_more}
@@ -30,9 +28,8 @@ returns-clause-named c =
     let absent = is_absent (labels fs) label c.find.result c.find.ensures
     (sym c.is_some.ensures ∙ c.if-is_some.false) in
     named_push_more (λ (f : Found). f.label.items) fs c.push.new.self.items c.args.table.now c.add.new.self one
-    c.hash_bytes-hash.result c.requires.named (c.hash_bytes-hash.ensures ∙ ap (hash_of c.args.table.now.seed)
-    (sym c.in_ok-label.ensures))
-    (subst (λ k. IsAbsent (labels fs) k) (sym c.in_ok-label.ensures) absent) c.in_ok-add.ensures.filled
+    c.hash_bytes-hash.result c.requires.named (simp (c.hash_bytes-hash.ensures, ← c.in_ok-label.ensures))
+    (simp c.in_ok-label.ensures absent) c.in_ok-add.ensures.filled
     c.in_ok-add.ensures.hashes c.in_ok-add.ensures.seed c.in_ok-push.ensures.items
 
 pub returns-clause-told : goal.returns-clause-told
@@ -45,7 +42,7 @@ returns-clause-told c = inr (record {
   };
   whole = c.in_ok-push.ensures.items;
   label_is = c.in_ok-label.ensures;
-  some = λ e. let none : false ≡ true = sym c.if-is_empty.false ∙ c.is_empty.ensures ∙ ap (λ xs. length xs == 0) e in
+  some = λ e. let none : false ≡ true = simp (← c.if-is_empty.false, c.is_empty.ensures, e) in
       absurd (cc);
   at_is = refl;
   choice_is = refl;

@@ -1,7 +1,6 @@
 use Rattle.std.proofs.Common.{rules, ◌≡◌, ◌+◌, ◌∷◌, [], true, false, Some, length, slice_get}
-use Rattle.std.proofs.Common.{slice_set, refl, sym, subst, arith}
+use Rattle.std.proofs.Common.{refl, arith}
 use Rattle.std.proofs.lemmas.Option.{slice_get_read}
-use Rattle.pip_search.specs.Graphs.{IsSpreading}
 use Rattle.pip_search.proofs.Places.{get-more}
 use Rattle.pip_search.proofs.Spreading.{marked_more, unmarked_set}
 use Rattle.pip_search.proofs.graph.mark.Goals as goal
@@ -18,15 +17,12 @@ returns-in_ok-push-clause-sum c =
 
 pub returns-in_ok-push-clause-stays : goal.returns-in_ok-push-clause-stays
 returns-in_ok-push-clause-stays c = λ p k e.
-    subst (λ q. slice_get q p ≡ Some k) (sym c.in_ok-push.ensures.items)
-    (get-more c.args.queue.now.items (c.args.place ∷ []) p k e)
+    rw c.in_ok-push.ensures.items (get-more c.args.queue.now.items (c.args.place ∷ []) p k e)
 
 pub returns-in_ok-push-clause-spreading : goal.returns-in_ok-push-clause-spreading
 returns-in_ok-push-clause-spreading c = λ targets width first i s leads.
-    subst (λ q. IsSpreading targets width first (slice_set c.args.marks.now.items c.args.place true) q i)
-    (sym c.in_ok-push.ensures.items)
-    (marked_more targets width first c.args.marks.now.items c.args.queue.now.items i c.args.place s c.requires.place
-    leads)
+    rw c.in_ok-push.ensures.items (marked_more targets width first c.args.marks.now.items c.args.queue.now.items i
+    c.args.place s c.requires.place leads)
 
 pub returns-else-not-index-clause-now : goal.returns-else-not-index-clause-now
 returns-else-not-index-clause-now c =

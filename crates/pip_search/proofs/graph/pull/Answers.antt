@@ -1,5 +1,5 @@
 use Rattle.std.proofs.Common.{rules, ◌≡◌, ◌≢◌, ◌+◌, ◌-◌, ◌%◌, ◌<◌, Some, length, slice_get}
-use Rattle.std.proofs.Common.{refl, ap, subst, ◌∙◌, arith, get_or}
+use Rattle.std.proofs.Common.{refl, ◌∙◌, arith, get_or}
 use Rattle.std.proofs.lemmas.List.{get_or_read}
 use Rattle.std.proofs.lemmas.Option.{slice_get_read}
 use Rattle.pip_search.proofs.Spreading.{one_edge, walk_begins, walk_falls, walk_goes}
@@ -10,13 +10,12 @@ pub loop-at-init : goal.loop-at-init
 loop-at-init c =
     let x = c.args.edges.now in
     let at = c.index-at.result.now in
-    let count : c.len.result ≡ length x.heads.items = omega (arith, x.heads.ok.0, c.len.ensures) in
+    let count : c.len.result ≡ length x.heads.items = omega arith in
     let some = c.requires.filed.some in
     let low : c.args.k % c.len.result < length x.heads.items = omega arith in
     record {
       walk = walk_begins x c.args.width c.args.k c.requires.filed c.args.marks.now.items at
-          (subst (λ n. at ≡ get_or x.heads.items (c.args.k % n) 0) count
-          (get_or_read x.heads.items (c.args.k % c.len.result) at low c.index-at.ensures 0));
+          (rw (← count) (get_or_read x.heads.items (c.args.k % c.len.result) at low c.index-at.ensures 0));
       keeps = λ j e. e;
       count = refl;
       sum = refl;
@@ -29,10 +28,10 @@ loop-at-smaller c =
     let x = c.args.edges.now in
     let next = c.index-at-in-loop-at.result.now in
     let w = c.loop-at.invariant.walk in
-    let here : c.loop-at.at ≡ c.loop-at.at - 1 + 1 = omega (arith, c.loop-at-test.true) in
+    let here : c.loop-at.at ≡ c.loop-at.at - 1 + 1 = omega arith in
     let count = c.requires.filed.count in
     let within = w.within in
-    let low : c.loop-at.at - 1 < length x.chains.items = omega (arith, c.loop-at-test.true) in
+    let low : c.loop-at.at - 1 < length x.chains.items = omega arith in
     walk_falls x c.args.width c.args.k c.requires.filed c.loop-at.marks.items c.loop-at.at (c.loop-at.at - 1) next w
     here (get_or_read x.chains.items (c.loop-at.at - 1) next low c.index-at-in-loop-at.ensures 0)
 
@@ -42,10 +41,10 @@ loop-at-preserved c =
     let next = c.index-at-in-loop-at.result.now in
     let h = c.loop-at.invariant in
     let p = c.loop-at.at - 1 in
-    let here : c.loop-at.at ≡ p + 1 = omega (arith, c.loop-at-test.true) in
+    let here : c.loop-at.at ≡ p + 1 = omega arith in
     let count = c.requires.filed.count in
     let within = h.walk.within in
-    let low : p < length x.chains.items = omega (arith, c.loop-at-test.true) in
+    let low : p < length x.chains.items = omega arith in
     let chain : next ≡ get_or x.chains.items p 0 =
     get_or_read x.chains.items p next low c.index-at-in-loop-at.ensures 0 in
     let end = c.index.result.now in
@@ -57,7 +56,7 @@ loop-at-preserved c =
           let queue = w.mark.new.queue.items in
           let own = w.in_ok-mark.ensures in
           let is : end ≡ c.args.k = search rules in
-          let at : slice_get x.hashes.items p ≡ Some c.args.k = there ∙ ap Some is in
+          let at : slice_get x.hashes.items p ≡ Some c.args.k = rw (there, is) in
           rw (w.marks-is, w.queue-is) (record {
             walk = walk_goes x c.args.width c.args.k c.requires.filed c.loop-at.marks.items marks c.loop-at.at p next
                 h.walk here own.keeps (λ _. own.now) chain;

@@ -10,7 +10,7 @@ loop-i-preserved c =
     let queue = c.loop-i.queue.items in
     let k = c.index-k.result.now in
     let own = c.in_ok-pull.ensures in
-    let low : c.loop-i.i < length queue = omega (arith, c.loop-i-test.true, c.len.ensures, c.loop-i.queue.ok.0) in
+    let low : c.loop-i.i < length queue = omega arith in
     let there : slice_get queue c.loop-i.i ≡ Some k = slice_get_read queue (length queue) c.loop-i.i k refl low
     c.index-k.ensures in
     record {
@@ -24,6 +24,6 @@ pub returns-clause-closed : goal.returns-clause-closed
 returns-clause-closed c = λ k marked.
     let h = c.loop-i.invariant in
     let queue = c.loop-i.queue.items in
-    let all : length queue ≤ c.loop-i.i = omega (arith, c.loop-i-test.false, c.len.ensures, c.loop-i.queue.ok.0) in
+    let all : length queue ≤ c.loop-i.i = omega arith in
     all_followed c.args.edges.now.hashes.items c.args.width c.args.marks.now.items c.loop-i.marks.items queue
     c.loop-i.i h.spreading all k marked

@@ -10,8 +10,11 @@ returns-clause-empty c =
     elim (cases_lt c.first_empty.result c.args.from) [
       | inl less ↦ c.first_empty.ensures.empty less
       | inr most ↦
-          let all = all_full c.args.cells.now c.args.from
-          (λ k a b. c.first_empty-cell.ensures.full k a (omega (arith, b, end)))
-          (λ k b. c.first_empty.ensures.full k (omega arith) (omega (arith, b, most))) in
-          absurd (omega (arith, all, some))
+          absurd (omega (
+            arith,
+            all_full c.args.cells.now c.args.from
+                (λ k a b. c.first_empty-cell.ensures.full k a (omega (arith, b, end)))
+                (λ k b. c.first_empty.ensures.full k (omega arith) (omega (arith, b, most))),
+            some,
+          ))
     ]

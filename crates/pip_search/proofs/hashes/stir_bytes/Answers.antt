@@ -1,5 +1,4 @@
-use Rattle.std.proofs.Common.{◌≡◌, ◌∙◌, ◌+◌, ap, sym, subst, drop}
-use Rattle.pip_search.specs.Naming.{hash_after, hash_step}
+use Rattle.pip_search.specs.Naming.{hash_after}
 use Rattle.pip_search.proofs.Hashing.{hash_more, hash_none}
 use Rattle.pip_search.proofs.hashes.stir_bytes.Goals as goal
 
@@ -8,9 +7,8 @@ loop-byte-preserved c =
     let ks = c.args.bytes.now in
     let i = c.loop-byte.byte-index in
     let h = hash_after c.args.start ks in
-    subst (λ sum. hash_after sum (drop (i + 1) ks) ≡ h)
-    (sym (c.stir-sum.ensures ∙ ap (hash_step c.loop-byte.sum) c.from.ensures))
-    (hash_more ks i c.loop-byte.sum h c.loop-byte-test.true c.loop-byte.invariant)
+    rw (c.stir-sum.ensures, c.from.ensures) (hash_more ks i c.loop-byte.sum h c.loop-byte-test.true
+    c.loop-byte.invariant)
 
 pub returns : goal.returns
 returns c = hash_none c.args.bytes.now c.loop-byte.byte-index c.loop-byte.sum (hash_after c.args.start c.args.bytes.now)

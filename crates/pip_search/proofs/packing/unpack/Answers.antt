@@ -1,4 +1,4 @@
-use Rattle.std.proofs.Common.{◌∙◌, ◌+◌, ◌++◌, ◌∷◌, [], ap, sym, refl, append-nil, drop}
+use Rattle.std.proofs.Common.{◌∙◌, ◌+◌, ◌++◌, ◌∷◌, [], ap, refl, append-nil, drop}
 use Rattle.std.proofs.lemmas.List.{at_drop_all}
 use Rattle.pip_search.specs.Packing.{unpacked_key, unpacked_after}
 use Rattle.pip_search.proofs.Packed.{unpack_last, unpack_more, words_none}
@@ -12,19 +12,27 @@ loop-byte-preserved c =
     let words = c.loop-byte.key.items in
     let rest = drop (i + 1) bytes in
     elim c.if-byte-lt128.branch [
-      | then-byte-lt128+in_ok-push w ↦ ap (λ k. k.items ++ unpacked_after c.if-byte-lt128.word rest) w.key-is
-          ∙ ap (λ x. w.push.new.self.items ++ unpacked_after x rest) w.word-is
-          ∙ unpack_last words w.push.new.self.items bytes i c.loop-byte.word _ (unpacked_key bytes)
-          c.loop-byte-test.true refl w.if-byte-lt128.true
-          (w.in_ok-push.ensures.items ∙ ap (λ x. words ++ x ∷ []) c.joined-word.ensures) c.loop-byte.invariant
-      | else-byte-lt128 w ↦ ap (λ k. k.items ++ unpacked_after c.if-byte-lt128.word rest) w.key-is
-          ∙ ap (λ x. words ++ unpacked_after x rest) (w.word-is ∙ c.joined-word.ensures)
-          ∙ unpack_more words bytes i c.loop-byte.word _ (unpacked_key bytes) c.loop-byte-test.true refl
-          w.if-byte-lt128.false c.loop-byte.invariant
+      | then-byte-lt128+in_ok-push w ↦ rw (
+        w.key-is,
+        w.word-is,
+        unpack_last words w.push.new.self.items bytes i
+            c.loop-byte.word _ (unpacked_key bytes) c.loop-byte-test.true refl w.if-byte-lt128.true
+            (w.in_ok-push.ensures.items ∙ ap (λ x. words ++ x ∷ []) c.joined-word.ensures) c.loop-byte.invariant,
+      )
+      | else-byte-lt128 w ↦ rw (
+        w.key-is,
+        w.word-is,
+        c.joined-word.ensures,
+        unpack_more words bytes i c.loop-byte.word
+            _ (unpacked_key bytes) c.loop-byte-test.true refl w.if-byte-lt128.false c.loop-byte.invariant,
+      )
     ]
 
 pub returns : goal.returns
-returns c = sym (append-nil c.loop-byte.key.items)
-    ∙ ap (λ x. c.loop-byte.key.items ++ x)
-    (sym (at_drop_all (unpacked_after c.loop-byte.word) c.args.bytes.now c.loop-byte.byte-index c.loop-byte-test.false
-    ∙ words_none c.loop-byte.word)) ∙ c.loop-byte.invariant
+returns c = rw (
+  ← append-nil c.loop-byte.key.items,
+  ← words_none c.loop-byte.word,
+  ← at_drop_all
+      (unpacked_after c.loop-byte.word) c.args.bytes.now c.loop-byte.byte-index c.loop-byte-test.false,
+  c.loop-byte.invariant,
+)

@@ -1,22 +1,16 @@
-use Rattle.std.proofs.Common.{rules, arith, sym, subst, ap, ◌∙◌, ◌≡◌, ◌≤◌, ◌+◌, ◌∷◌, []}
+use Rattle.std.proofs.Common.{rules, arith, sym, subst, ◌∙◌, ◌≡◌, ◌≤◌, ◌∷◌, []}
 use Rattle.std.specs.Prelude.{length}
 use Rattle.std.proofs.lemmas.List.{length-map}
-use Rattle.pip_search.specs.Certificates.{IsClosedPart}
-use Rattle.pip_search.specs.Parts.{IsGrowing, IsWalked, portion_of, stop_at, stop_of, stops}
-use Rattle.pip_search.specs.Portions.{IsPortionOf}
-use Rattle.pip_search.specs.Systems.{IsKey}
+use Rattle.pip_search.specs.Parts.{IsWalked, portion_of, stop_at, stop_of, stops}
 use Rattle.pip_search.proofs.Parting.{all_closed, first_grows, has_new}
 use Rattle.pip_search.proofs.Portioning.{first_portion, portion_said, walked_first}
 use Rattle.pip_search.proofs.parts.check_part.Goals as goal
 
 pub meet_all-requires-clause-key : goal.meet_all-requires-clause-key
-meet_all-requires-clause-key g c = subst (λ b. IsKey (g.S.System.model b) c.args.start.now)
-    (sym c.loop-i.invariant.base) c.requires.key
+meet_all-requires-clause-key g c = rw c.loop-i.invariant.base c.requires.key
 
 pub meet_all-requires-clause-growing : goal.meet_all-requires-clause-growing
-meet_all-requires-clause-growing g c = subst
-    (λ b. IsGrowing (g.S.System.model b) c.args.start.now c.loop-i.part c.loop-i.i 0)
-    (sym c.loop-i.invariant.base) c.loop-i.invariant.growing
+meet_all-requires-clause-growing g c = rw c.loop-i.invariant.base c.loop-i.invariant.growing
 
 pub returns-clause-closed : goal.returns-clause-closed
 returns-clause-closed g c = λ p e.
@@ -29,8 +23,7 @@ returns-clause-closed g c = λ p e.
       c.len.ensures,
       part.keys.ok.0,
     ) in
-    subst (λ q. IsClosedPart m (portion_of q)) same
-    (all_closed m c.args.start.now part c.loop-i.i c.loop-i.invariant.growing whole)
+    rw (← same) (all_closed m c.args.start.now part c.loop-i.i c.loop-i.invariant.growing whole)
 
 pub loop-i-init : goal.loop-i-init
 loop-i-init g c =
@@ -46,9 +39,9 @@ loop-i-init g c =
           c.in_ok-part.ensures.found c.in_ok-part.ensures.labels;
       within = omega arith;
       begins = λ none.
-          let few : n ≡ 0 = ap length none in
+          let few : n ≡ 0 = rw none in
           has_new [] (stops p.keys.items) start 0
-          (keys ∙ ap (λ k. stop_at k n ∷ []) (c.in_ok-walk.ensures.stays none) ∙ ap (λ k. stop_at start k ∷ []) few);
+          (rw (keys, c.in_ok-walk.ensures.stays none, few));
       kept = c.in_ok-part.ensures.kept;
       low = omega arith;
       walked = (
@@ -59,7 +52,7 @@ loop-i-init g c =
               (first_portion p (stop_at from n) keys c.in_ok-part.ensures.asked c.in_ok-part.ensures.found),
         ),
       );
-      few = let one = c.in_ok-part.ensures.count in omega arith;
+      few = omega (arith, c.in_ok-part.ensures.count);
     }
 
 pub loop-i-preserved : goal.loop-i-preserved
@@ -67,8 +60,7 @@ loop-i-preserved g c =
     let m = g.S.System.model (g.S.System.base c.args.system.now) in
     record {
       base = c.in_ok-at.ensures.base ∙ c.loop-i.invariant.base;
-      growing = subst (λ b. IsGrowing (g.S.System.model b) c.args.start.now c.meet_all.new.part (c.loop-i.i + 1) 0)
-          c.loop-i.invariant.base c.in_ok-at.ensures.growing;
+      growing = rw (← c.loop-i.invariant.base) c.in_ok-at.ensures.growing;
       within = c.in_ok-at.ensures.within;
       begins = λ none. c.in_ok-at.ensures.keeps c.args.start.now 0 (c.loop-i.invariant.begins none);
       kept = c.in_ok-at.ensures.kept;
@@ -77,14 +69,12 @@ loop-i-preserved g c =
         w.0,
         (
           w.1.0,
-          subst (λ b. IsWalked (g.S.System.model b) c.args.marks.now (stop_at w.0 (length c.args.way.now))
-              (portion_of c.meet_all.new.part) (c.loop-i.i + 1) c.in_ok-at.at) c.loop-i.invariant.base
-              (c.in_ok-at.ensures.walked (stop_at w.0 (length c.args.way.now))
+          rw (← c.loop-i.invariant.base) (c.in_ok-at.ensures.walked (stop_at w.0 (length c.args.way.now))
               (subst (λ b. IsWalked (g.S.System.model b) c.args.marks.now (stop_at w.0 (length c.args.way.now))
               (portion_of c.loop-i.part) c.loop-i.i c.loop-i.at) (sym c.loop-i.invariant.base) w.1.1)),
         ),
       );
-      few = let a = c.in_ok-at.ensures.few in let b = c.loop-i.invariant.few in omega arith;
+      few = omega (arith, c.in_ok-at.ensures.few, c.loop-i.invariant.few);
     }
 
 pub returns-clause-says : goal.returns-clause-says
@@ -101,7 +91,6 @@ returns-clause-says g c = λ p e.
       part.keys.ok.0,
     ) in
     let size : length (stops part.keys.items) ≡ length part.keys.items = length-map part.keys.items stop_of in
-    let all : c.loop-i.i ≡ length (stops part.keys.items) = omega (arith, whole, low, size, part.keys.ok.0) in
-    subst (λ q. IsPortionOf m c.args.start.now c.args.way.now c.args.marks.now (portion_of q)) same
-    (portion_said m c.args.start.now c.args.way.now c.args.marks.now w.0 (portion_of part) c.loop-i.i c.loop-i.at w.1.0
-    w.1.1 all)
+    let all : c.loop-i.i ≡ length (stops part.keys.items) = omega arith in
+    rw (← same) (portion_said m c.args.start.now c.args.way.now c.args.marks.now w.0 (portion_of part) c.loop-i.i
+    c.loop-i.at w.1.0 w.1.1 all)

@@ -1,15 +1,12 @@
-use Rattle.std.proofs.Common.{rules, arith, refl, ap, sym, subst, ◌∙◌, ◌≡◌, ◌+◌, ◌⊎◌}
+use Rattle.std.proofs.Common.{rules, arith, refl, ap, sym, subst, ◌≡◌, ◌+◌, ◌⊎◌}
 use Rattle.std.specs.Prelude.{Some, slice_get, length}
-use Rattle.std.specs.Str.{bytes_eq}
 use Rattle.std.proofs.lemmas.Option.{slice_get_read}
 use Rattle.pip_search.specs.Certificates.{HasStop, Stop}
 use Rattle.pip_search.specs.Growing.{Told}
 use Rattle.pip_search.specs.Keys.{labels}
-use Rattle.pip_search.specs.Naming.{AreDistinct, AreNamed}
+use Rattle.pip_search.specs.Naming.{AreNamed}
 use Rattle.pip_search.specs.Packing.{unpacked_key}
-use Rattle.pip_search.specs.Parts.{AddsAtMostOne, stop_at, stop_of, stops}
-use Rattle.pip_search.specs.Portions.{asked_with, keys_with}
-use Rattle.pip_search.specs.Systems.{IsKey, LeadsOn}
+use Rattle.pip_search.specs.Parts.{stop_at, stop_of, stops}
 use Rattle.pip_search.proofs.Making.{at-same}
 use Rattle.pip_search.proofs.Parting.{grows, key_reached, may_has, old_words}
 use Rattle.pip_search.proofs.Picking.{map_at}
@@ -21,9 +18,9 @@ pub make-requires-clause-key : goal.make-requires-clause-key
 make-requires-clause-key g c =
     let m = g.S.System.model (g.S.System.base c.args.system.now) in
     let xs = c.args.part.now.keys.items in
-    let (v, at) = get-some xs c.args.i (omega (arith, c.args.part.now.keys.ok.0)) in
+    let (v, at) = get-some xs c.args.i (omega arith) in
     let there = map_at stop_of xs c.args.i v at in
-    subst (λ k. IsKey m k) (c.requires.hand (stop_of v) there ∙ sym c.as_slice.ensures.value)
+    rw (c.as_slice.ensures.value, ← c.requires.hand (stop_of v) there)
     (key_reached m c.args.start.now c.args.part.now c.args.i c.args.choice c.requires.growing c.requires.key
     (stop_of v) there)
 
@@ -55,26 +52,22 @@ returns-clause-growing g c =
     let more : v.depth + 1 ≡ c.in-Some.depth = search rules in
     let next = c.make.new.to.items in
     let shown = c.make.new.shown.items in
-    let words : unpacked_key c.deref-3.result.now ≡ next = ap unpacked_key c.deref-3.ensures.value
-    ∙ c.in_ok-pack.ensures.words ∙ c.deref-2.ensures.value in
+    let words : unpacked_key c.deref-3.result.now ≡ next = rw
+    (c.deref-3.ensures.value, c.in_ok-pack.ensures.words, c.deref-2.ensures.value) in
     let stop : stop_at (unpacked_key c.deref-3.result.now) c.in-Some.depth ≡ stop_at next (v.depth + 1) =
-    ap (λ k. stop_at k c.in-Some.depth) words ∙ ap (λ n. stop_at next n) (sym more) in
+    rw (words, ← more) in
     grows m c.args.start.now p q c.args.i c.args.choice c.requires.growing (stop_of v) there c.requires.choice next
     shown
-    (subst (λ k. LeadsOn m k c.args.choice next shown) (c.as_slice.ensures.value ∙ sym
-    (c.requires.hand (stop_of v) there)) c.in_ok-make.ensures.leads)
+    (rw (c.requires.hand (stop_of v) there, ← c.as_slice.ensures.value) c.in_ok-make.ensures.leads)
     c.in-Some.depth
-    (subst (λ fs. Told p.found.items fs.items shown c.args.i c.args.choice c.in-Some.depth)
-    (sym c.in_ok-settle.ensures.found)
-    (subst (λ label. Told p.found.items c.tell.new.found.items label c.args.i c.args.choice c.in-Some.depth)
-    c.deref.ensures.value c.in_ok-tell.ensures.told))
-    (subst (λ y. AddsAtMostOne (stops p.keys.items) (stops q.keys.items) y) stop c.in_ok-settle.ensures.keys)
-    (subst (λ y. AddsAtMostOne (stops p.asked.items) (stops q.asked.items) y) stop c.in_ok-settle.ensures.asked)
+    (rw c.in_ok-settle.ensures.found (subst (λ label. Told p.found.items c.tell.new.found.items label c.args.i
+    c.args.choice c.in-Some.depth) c.deref.ensures.value c.in_ok-tell.ensures.told))
+    (rw (← stop) c.in_ok-settle.ensures.keys)
+    (rw (← stop) c.in_ok-settle.ensures.asked)
     (subst (λ (y : Stop). HasStop (stops q.keys.items) y.key y.depth ⊎ HasStop (stops q.asked.items) y.key y.depth) stop
     c.in_ok-settle.ensures.met)
-    (subst (λ fs. AreNamed (labels fs.items) q.labels) (sym c.in_ok-settle.ensures.found)
-    (subst (λ x. AreNamed (labels c.tell.new.found.items) x) (sym c.in_ok-settle.ensures.labels)
-    c.in_ok-tell.ensures.named))
+    (rw c.in_ok-settle.ensures.found (subst (λ x. AreNamed (labels c.tell.new.found.items) x)
+    (sym c.in_ok-settle.ensures.labels) c.in_ok-tell.ensures.named))
 
 pub returns-clause-hand : goal.returns-clause-hand
 returns-clause-hand g c = λ x e.
@@ -105,20 +98,14 @@ returns-clause-moved g c = λ x e.
     let more : v.depth + 1 ≡ c.in-Some.depth = search rules in
     let next = c.make.new.to.items in
     let shown = c.make.new.shown.items in
-    let words : unpacked_key c.deref-3.result.now ≡ next = ap unpacked_key c.deref-3.ensures.value
-    ∙ c.in_ok-pack.ensures.words ∙ c.deref-2.ensures.value in
+    let words : unpacked_key c.deref-3.result.now ≡ next = rw
+    (c.deref-3.ensures.value, c.in_ok-pack.ensures.words, c.deref-2.ensures.value) in
     let stop : stop_at (unpacked_key c.deref-3.result.now) c.in-Some.depth ≡ stop_at next (x.depth + 1) =
-    ap (λ k. stop_at k c.in-Some.depth) words ∙ ap (λ n. stop_at next n) (sym more ∙ ap (λ n. n + 1) deep) in
+    rw (words, ← more, deep) in
     has_moved m x c.args.choice c.args.own p q next shown c.args.i c.args.choice c.in-Some.depth
-    (subst (λ k. LeadsOn m k c.args.choice next shown) (c.as_slice.ensures.value ∙ sym (c.requires.hand x e))
-    c.in_ok-make.ensures.leads)
-    (subst (λ fs. Told p.found.items fs.items shown c.args.i c.args.choice c.in-Some.depth)
-    (sym c.in_ok-settle.ensures.found)
-    (subst (λ label. Told p.found.items c.tell.new.found.items label c.args.i c.args.choice c.in-Some.depth)
-    c.deref.ensures.value c.in_ok-tell.ensures.told))
-    (subst (λ fs. AreDistinct (labels fs.items)) (sym c.in_ok-settle.ensures.found) c.in_ok-tell.ensures.named.distinct)
-    (c.in_ok-settle.ensures.own ∙ ap (keys_with c.args.own (stops xs)) stop)
-    (c.in_ok-settle.ensures.asks x e
-    ∙ ap (λ k. asked_with c.args.own (bytes_eq x.key k) (stops p.asked.items)
-    (stop_at (unpacked_key c.deref-3.result.now) c.in-Some.depth)) words
-    ∙ ap (asked_with c.args.own (bytes_eq x.key next) (stops p.asked.items)) stop)
+    (rw (c.requires.hand x e, ← c.as_slice.ensures.value) c.in_ok-make.ensures.leads)
+    (rw c.in_ok-settle.ensures.found (subst (λ label. Told p.found.items c.tell.new.found.items label c.args.i
+    c.args.choice c.in-Some.depth) c.deref.ensures.value c.in_ok-tell.ensures.told))
+    (rw c.in_ok-settle.ensures.found c.in_ok-tell.ensures.named.distinct)
+    (rw (c.in_ok-settle.ensures.own, stop))
+    (cc (c.in_ok-settle.ensures.asks x e))

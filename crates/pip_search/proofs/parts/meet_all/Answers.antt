@@ -1,19 +1,15 @@
-use Rattle.std.proofs.Common.{rules, arith, refl, ap, sym, subst, ◌≡◌, ◌∙◌, ◌+◌, ◌≤◌, ℕ, length, false, true, vec_len}
+use Rattle.std.proofs.Common.{rules, arith, refl, ◌≡◌, ◌∙◌, ◌+◌, ◌≤◌, ℕ, length, false, true, vec_len}
 use Rattle.std.specs.Prelude.{Bool, IsTrue, Some, slice_get}
 use Rattle.std.proofs.lemmas.List.{length-map}
 use Rattle.std.proofs.lemmas.Option.{slice_get_read}
-use Rattle.pip_search.specs.Certificates.{Stop}
-use Rattle.pip_search.specs.Packing.{unpacked_key}
-use Rattle.pip_search.specs.Parts.{HasMoved, IsGrowing, portion_of, stop_of, stops}
-use Rattle.pip_search.specs.Systems.{IsKey}
+use Rattle.pip_search.specs.Parts.{portion_of, stop_of, stops}
 use Rattle.pip_search.proofs.Making.{at-same}
 use Rattle.pip_search.proofs.Picking.{map_at}
 use Rattle.pip_search.proofs.Portioning.{walked_more, walked_row, walked_start}
 use Rattle.pip_search.proofs.parts.meet_all.Goals as goal
 
 pub meet-requires-clause-key : goal.meet-requires-clause-key
-meet-requires-clause-key g c = subst (λ b. IsKey (g.S.System.model b) c.args.start.now)
-    (sym c.loop-choice.invariant.base) c.requires.key
+meet-requires-clause-key g c = rw c.loop-choice.invariant.base c.requires.key
 
 pub returns-clause-walked : goal.returns-clause-walked
 returns-clause-walked g c = λ from w.
@@ -34,22 +30,25 @@ loop-choice-init g c =
     let fits = c.args.part.now.keys.ok.0 in
     let place = c.requires.place in
     let v = c.index.result.now in
-    let at : slice_get xs c.args.i ≡ Some v = slice_get_read xs (length xs) c.args.i v refl (omega (arith, fits, place))
+    let at : slice_get xs c.args.i ≡ Some v = slice_get_read xs (length xs) c.args.i v refl (omega arith)
     c.index.ensures in
     let size : length (stops xs) ≡ length xs = length-map xs stop_of in
     record {
       base = refl;
       growing = c.requires.growing;
-      hand = λ x e. ap (λ (y : Stop). y.key) (sym (at-same (stops xs) c.args.i (stop_of v) x
-          (map_at stop_of xs c.args.i v at) e)) ∙ (ap unpacked_key (sym c.deref.ensures.value)
-          ∙ sym c.in_ok-unpack.ensures);
+      hand = λ x e. rw (
+        ← at-same (stops xs) c.args.i (stop_of v) x (map_at stop_of xs c.args.i v at) e,
+        ←
+            c.deref.ensures.value,
+        ← c.in_ok-unpack.ensures,
+      );
       within = c.requires.marks;
       place = place;
       keeps = λ key n h. h;
       kept = c.requires.kept;
       least = omega arith;
       walked = λ from w. walked_start m c.args.marks.now from (portion_of c.args.part.now) c.args.i c.args.first
-          (omega (arith, size, fits, place)) w;
+          (omega arith) w;
       few = omega arith;
     }
 
@@ -65,18 +64,16 @@ loop-choice-preserved g c =
     let q = c.meet.new.part in
     record {
       base = now.base ∙ was.base;
-      growing = subst (λ b. IsGrowing (g.S.System.model b) c.args.start.now q c.args.i (c.loop-choice.choice + 1))
-          was.base now.growing;
+      growing = rw (← was.base) now.growing;
       hand = now.hand;
       within = mark.within;
-      place = let more = now.least in let place = was.place in omega (arith, more, place);
+      place = omega arith;
       keeps = λ key n h. now.keeps key n (was.keeps key n h);
       kept = now.kept;
-      least = let more = now.least in let least = was.least in omega (arith, more, least);
+      least = omega arith;
       walked = λ from w. walked_more m c.args.marks.now from (portion_of p) (portion_of q) c.args.i c.loop-choice.choice
           c.loop-choice.at next own (was.walked from w) mark.is
-          (subst (λ b. (x : Stop) → slice_get (stops p.keys.items) c.args.i ≡ Some x
-          → HasMoved (g.S.System.model b) x c.loop-choice.choice own (portion_of p) (portion_of q)) was.base now.moved);
+          (rw (← was.base) now.moved);
       few = few_more own (vec_len p.keys) (vec_len q.keys) c.args.first (vec_len c.args.part.now.keys)
           c.loop-choice.at next was.few mark.least mark.used now.more now.other;
     }

@@ -1,7 +1,6 @@
 use Rattle.std.proofs.Common.{arith, inl, inr, refl, ap, sym, ◌∙◌, ◌≡◌, ◌+◌}
 use Rattle.std.specs.Prelude.{Some, slice_get, length}
 use Rattle.std.proofs.lemmas.Option.{slice_get_read}
-use Rattle.pip_search.specs.Certificates.{Stop}
 use Rattle.pip_search.specs.Packing.{packed_key, unpacked_key}
 use Rattle.pip_search.specs.Parts.{stop_at, stop_of, stops}
 use Rattle.pip_search.proofs.Making.{at-same}
@@ -21,7 +20,7 @@ returns-then-is_same-clause-met c =
     let there = map_at stop_of xs c.args.i x at in
     let deep : x.depth + 1 ≡ c.args.depth = c.requires.depth (stop_of x) there in
     inl (has_own (stops xs) c.args.i (stop_of x) (unpacked_key c.args.bytes.now) c.args.depth there
-    (ap unpacked_key (sym c.deref.ensures.value ∙ c.is_same.ensures.same c.if-is_same.true)) (omega arith))
+    (rw (← c.deref.ensures.value, c.is_same.ensures.same c.if-is_same.true)) (omega arith))
 
 pub returns-then-is_same-clause-asks : goal.returns-then-is_same-clause-asks
 returns-then-is_same-clause-asks c = λ x e.
@@ -33,8 +32,8 @@ returns-then-is_same-clause-asks c = λ x e.
     )) c.index.ensures in
     let own : stop_of v ≡ x = at-same (stops xs) c.args.i (stop_of v) x (map_at stop_of xs c.args.i v at) e in
     same_again c.args.own x (unpacked_key c.args.bytes.now) (stops c.args.part.now.asked.items)
-    (stop_at (unpacked_key c.args.bytes.now) c.args.depth) (ap (λ (y : Stop). y.key) (sym own)
-    ∙ ap unpacked_key (sym c.deref.ensures.value ∙ c.is_same.ensures.same c.if-is_same.true))
+    (stop_at (unpacked_key c.args.bytes.now) c.args.depth)
+    (rw (← own, ← c.deref.ensures.value, c.is_same.ensures.same c.if-is_same.true))
 
 pub returns-clause-asks : goal.returns-clause-asks
 returns-clause-asks c = λ x e.
@@ -48,7 +47,7 @@ returns-clause-asks c = λ x e.
     other_asked c.args.own x (unpacked_key c.args.bytes.now) (stops c.args.part.now.asked.items)
     (stops c.add-2.new.list.items) (stop_at (unpacked_key c.args.bytes.now) c.args.depth) c.if-own.false (λ same.
     c.is_same.ensures.other c.if-is_same.false (c.deref.ensures.value ∙ (sym (c.requires.kept c.args.i v at)
-    ∙ ap packed_key (ap (λ (y : Stop). y.key) own ∙ same) ∙ c.requires.packed))) c.in_ok-add-2.ensures.added
+    ∙ ap packed_key (cc) ∙ c.requires.packed))) c.in_ok-add-2.ensures.added
 
 pub returns-clause-met : goal.returns-clause-met
 returns-clause-met c = inr (has_new (stops c.args.part.now.asked.items) (stops c.add-2.new.list.items)

@@ -1,6 +1,4 @@
-use Rattle.std.proofs.Common.{◌≡◌, ◌<◌, arith, refl, sym, subst, length, false}
-use Rattle.pip_search.specs.Ending.{IsBeyond}
-use Rattle.pip_search.specs.Systems.{IsKey}
+use Rattle.std.proofs.Common.{◌≡◌, ◌<◌, arith, refl, length, false}
 use Rattle.pip_search.specs.Keys.{steps_of, visits_of}
 use Rattle.pip_search.proofs.Ranking.{ranked_next}
 use Rattle.pip_search.proofs.Telling.{next_visit}
@@ -8,8 +6,7 @@ use Rattle.pip_search.proofs.Steps.{visit_count}
 use Rattle.pip_search.proofs.searching.expand.Goals as goal
 
 pub make-requires-clause-key : goal.make-requires-clause-key
-make-requires-clause-key g c = subst (λ b. IsKey (g.S.System.model b) c.args.start.now)
-    (sym c.loop-choice.invariant.base) c.requires.key
+make-requires-clause-key g c = rw c.loop-choice.invariant.base c.requires.key
 
 pub loop-choice-init : goal.loop-choice-init
 loop-choice-init g c = record {
@@ -26,12 +23,12 @@ returns-clause-made g c = λ t.
     let m = g.S.System.model (g.S.System.base c.args.system.now) in
     let s = c.loop-choice.search in
     let n = c.count-count.ensures in
-    let whole : c.loop-choice.choice ≡ m.choices = omega (arith, n) in
+    let whole : c.loop-choice.choice ≡ m.choices = omega arith in
     let grows = c.loop-choice.invariant.grows in
     let h = c.loop-choice.invariant.searching in
     let vs = visits_of s in
     let count = visit_count s h.keyed in
-    let inside : c.args.i < length vs = omega (arith, s.visits.ok.0, grows, count) in
+    let inside : c.args.i < length vs = omega arith in
     record {
       exploring = next_visit m c.args.start.now vs s.found.items c.args.i c.loop-choice.choice h.exploring whole inside;
       ranked = ranked_next (steps_of vs) s.found.items c.args.i c.loop-choice.choice h.ranked;
@@ -43,5 +40,4 @@ returns-clause-made g c = λ t.
 pub returns-then-not-room-clause-beyond : goal.returns-then-not-room-clause-beyond
 returns-then-not-room-clause-beyond g c = λ t.
     let room : c.in_ok-room.room ≡ false = c.if-not-room.true in
-    subst (λ b. IsBeyond (g.S.System.model b) (visits_of c.make.new.search) c.args.limit c.args.i)
-    c.loop-choice.invariant.base (c.in_ok-room.ensures.beyond room)
+    rw (← c.loop-choice.invariant.base) (c.in_ok-room.ensures.beyond room)

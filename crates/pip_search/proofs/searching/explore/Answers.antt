@@ -1,9 +1,7 @@
-use Rattle.std.proofs.Common.{rules, ◌≡◌, ◌+◌, ◌-◌, arith, refl, sym, ap, subst, ◌∙◌, length, false, IsTrue}
+use Rattle.std.proofs.Common.{rules, ◌≡◌, ◌+◌, ◌-◌, arith, refl, ◌∙◌, length, false, IsTrue}
 use Rattle.pip_search.specs.Searching.{IsSearching}
-use Rattle.pip_search.specs.Systems.{IsKey}
 use Rattle.pip_search.specs.Keys.{keyed_visit, visits_of}
-use Rattle.pip_search.specs.declared.searching.Extent.TheVariants.{Stopped}
-use Rattle.pip_search.proofs.Done.{IsDone, closed_done, stopped_done, visit_read, within_done}
+use Rattle.pip_search.proofs.Done.{closed_done, stopped_done, visit_read, within_done}
 use Rattle.pip_search.proofs.Ending.{shallow_more}
 use Rattle.pip_search.proofs.Ranking.{ranked_begun}
 use Rattle.pip_search.proofs.Telling.{begun}
@@ -14,25 +12,23 @@ pub returns-then-depth-most : goal.returns-then-depth-most
 returns-then-depth-most g c =
     let h = c.loop-i.invariant in
     let v = c.index.result.now in
-    let (key, at) = visit_read c.loop-i.search c.loop-i.i v h.searching.keyed (omega (arith, c.len.ensures))
+    let (key, at) = visit_read c.loop-i.search c.loop-i.i v h.searching.keyed (omega arith)
     c.index.ensures in
     within_done h.base h.searching h.room (keyed_visit key v) refl at h.shallow c.if-depth-most.true
 
 pub expand-requires-clause-key : goal.expand-requires-clause-key
 expand-requires-clause-key g c =
-    subst (λ b. IsKey (g.S.System.model b) c.args.start.now) (sym c.loop-i.invariant.base) c.requires.key
+    rw c.loop-i.invariant.base c.requires.key
 
 pub returns-then-not-room : goal.returns-then-not-room
 returns-then-not-room g c =
     let v = c.index.result.now in
     let (key, at) = visit_read c.loop-i.search c.loop-i.i v c.loop-i.invariant.searching.keyed
-    (omega (arith, c.len.ensures)) c.index.ensures in
+    (omega arith) c.index.ensures in
     let room : c.in_ok-room.room ≡ false = search rules in
     let e = c.in_ok-room.ensures in
-    subst (λ b. IsDone (g.S.System.model b) c.args.start.now c.expand.new.search c.args.most c.args.limit
-    (Stopped v.depth) b (g.S.System.base c.expand.new.system)) c.loop-i.invariant.base
-    (stopped_done c.expand.ensures.base (e.left room).1 e.room (keyed_visit key v) (e.same ∙ at) c.if-depth-most.false
-    (e.beyond room))
+    rw (← c.loop-i.invariant.base) (stopped_done c.expand.ensures.base (e.left room).1 e.room (keyed_visit key v)
+    (e.same ∙ at) c.if-depth-most.false (e.beyond room))
 
 pub loop-i-preserved : goal.loop-i-preserved
 loop-i-preserved g c =
@@ -40,12 +36,11 @@ loop-i-preserved g c =
     let s = c.loop-i.search in
     let t = c.expand.new.search in
     let v = c.index.result.now in
-    let (key, at) = visit_read s c.loop-i.i v c.loop-i.invariant.searching.keyed (omega (arith, c.len.ensures))
+    let (key, at) = visit_read s c.loop-i.i v c.loop-i.invariant.searching.keyed (omega arith)
     c.index.ensures in
     let room : IsTrue c.in_ok-room.room = search rules in
     let h : IsSearching m c.args.start.now t (c.loop-i.i + 1) 0 =
-    subst (λ b. IsSearching (g.S.System.model b) c.args.start.now t (c.loop-i.i + 1) 0) c.loop-i.invariant.base
-    (c.in_ok-room.ensures.made room) in
+    rw (← c.loop-i.invariant.base) (c.in_ok-room.ensures.made room) in
     record {
       base = c.expand.ensures.base ∙ c.loop-i.invariant.base;
       searching = h;
@@ -58,23 +53,19 @@ pub overflow_sub-len : goal.overflow_sub-len
 overflow_sub-len g c =
     let s = c.loop-i.search in
     let h = c.loop-i.invariant.searching in
-    let count = visit_count s h.keyed in
-    let some = h.exploring.some in
-    omega (arith, s.visits.ok.0, count, some, c.len-2.ensures)
+    omega (arith, visit_count s h.keyed)
 
 pub index-requires-2 : goal.index-requires-2
 index-requires-2 g c =
     let s = c.loop-i.search in
     let h = c.loop-i.invariant.searching in
-    let count = visit_count s h.keyed in
-    let some = h.exploring.some in
-    omega (arith, s.visits.ok.0, count, some, c.len-2.ensures)
+    omega (arith, visit_count s h.keyed)
 
 pub returns : goal.returns
 returns g c =
     let h = c.loop-i.invariant in
-    closed_done h.base h.searching h.room c.index-2.result.now (c.len-2.result - 1) refl (omega (arith, c.len.ensures))
-    (omega (arith, c.len-2.ensures)) c.index-2.ensures h.shallow
+    closed_done h.base h.searching h.room c.index-2.result.now (c.len-2.result - 1) refl (omega arith)
+    (omega arith) c.index-2.ensures h.shallow
 
 pub loop-i-init : goal.loop-i-init
 loop-i-init g c =
@@ -82,7 +73,7 @@ loop-i-init g c =
     let s = c.in_ok-search.search in
     let b = c.in_ok-search.ensures.begun in
     let vs = visits_of s in
-    let one : length vs ≡ 1 = ap length b.one in
+    let one : length vs ≡ 1 = rw b.one in
     let count = visit_count s c.in_ok-search.ensures.keys in
     record {
       base = refl;
@@ -94,5 +85,5 @@ loop-i-init g c =
         kept = c.in_ok-search.ensures.kept;
       };
       shallow = λ j u low e. absurd (omega arith);
-      room = omega (arith, s.visits.ok.0, c.requires.limit, one, count);
+      room = omega arith;
     }

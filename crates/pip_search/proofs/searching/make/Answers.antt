@@ -1,10 +1,7 @@
-use Rattle.std.proofs.Common.{false, rules, ◌≡◌, ◌+◌, arith, refl, sym, ap, subst, ◌∙◌, IsTrue}
-use Rattle.pip_search.specs.Ending.{IsBeyond}
-use Rattle.pip_search.specs.Exploring.{IsExploring}
-use Rattle.pip_search.specs.Keys.{AreKept, key_of, keyed_visit, keyed_visits, steps_of, visits_of}
-use Rattle.pip_search.specs.Orders.{IsRanked}
+use Rattle.std.proofs.Common.{false, rules, ◌≡◌, ◌+◌, arith, refl, sym, subst, ◌∙◌, IsTrue}
+use Rattle.pip_search.specs.Keys.{key_of, keyed_visit, keyed_visits, visits_of}
 use Rattle.pip_search.specs.Packing.{packed_key, unpacked_key}
-use Rattle.pip_search.specs.Systems.{IsKey, LeadsOn}
+use Rattle.pip_search.specs.Systems.{LeadsOn}
 use Rattle.pip_search.specs.Collapsing.{keys_in}
 use Rattle.pip_search.proofs.Keeping.{absent_key, kept_bytes, kept_more, kept_words}
 use Rattle.pip_search.proofs.Making.{grew_same, grown_and_told}
@@ -20,8 +17,8 @@ make-requires-clause-key g c =
     let m = g.S.System.model (g.S.System.base c.args.system.now) in
     let s = c.args.search.now in
     let count = visit_count s c.requires.searching.keyed in
-    let (v, at) = get-some (visits_of s) c.args.i (omega (arith, s.visits.ok.0, count)) in
-    subst (λ k. IsKey m k) (sym (c.as_slice.ensures.value ∙ c.requires.hand v at))
+    let (v, at) = get-some (visits_of s) c.args.i (omega arith) in
+    rw (c.as_slice.ensures.value, c.requires.hand v at)
     (visit_key m c.args.start.now (visits_of s) s.found.items c.args.i c.args.choice c.requires.searching.exploring
     c.requires.key c.args.i v at)
 
@@ -29,7 +26,7 @@ pub reach_next-requires-clause-from : goal.reach_next-requires-clause-from
 reach_next-requires-clause-from g c =
     let s = c.args.search.now in
     let count = visit_count s c.requires.searching.keyed in
-    let (v, at) = get-some (visits_of s) c.args.i (omega (arith, s.visits.ok.0, count)) in
+    let (v, at) = get-some (visits_of s) c.args.i (omega arith) in
     kept_words (visits_of s) c.args.i v c.requires.searching.kept at (c.deref.ensures.value ∙ c.requires.hand v at)
 
 pub overflow_add-step : goal.overflow_add-step
@@ -37,8 +34,7 @@ overflow_add-step g c =
     let s = c.args.search.now in
     let h = c.requires.searching in
     let (own, at) = visit_read s c.args.i c.index-from.result.now h.keyed (omega arith) c.index-from.ensures in
-    let low = h.exploring.low c.args.i (keyed_visit own c.index-from.result.now) at in
-    omega (arith, low)
+    omega (arith, h.exploring.low c.args.i (keyed_visit own c.index-from.result.now) at)
 
 pub returns-clause-made : goal.returns-clause-made
 returns-clause-made g c = λ t.
@@ -53,7 +49,7 @@ returns-clause-made g c = λ t.
     let shown = c.deref-3.result.now in
     let run = c.run_from.result in
     let words : unpacked_key key ≡ c.make.new.to.items = c.in_ok-room.ensures.back ∙ c.deref-2.ensures.value in
-    let packed : key ≡ packed_key c.make.new.to.items = ap packed_key c.deref-2.ensures.value in
+    let packed : key ≡ packed_key c.make.new.to.items = rw c.deref-2.ensures.value in
     let h = c.requires.searching in
     let ws = keyed_visits (keys_in c.reach_next.new.store) c.reach_next.new.visits.items in
     let r = ranked_more vs ws s.found.items c.tell.new.found.items key shown c.args.i
@@ -64,9 +60,9 @@ returns-clause-made g c = λ t.
           (record {
             at = at;
             can = c.requires.choice;
-            leads = subst (λ k. LeadsOn m (key_of v) c.args.choice k shown) (sym words)
-                (subst (λ k. LeadsOn m (key_of v) c.args.choice c.make.new.to.items k) (sym c.deref-3.ensures.value)
-                (subst (λ k. LeadsOn m k c.args.choice c.make.new.to.items c.make.new.shown.items)
+            leads = rw words (subst (λ k. LeadsOn m (key_of v) c.args.choice c.make.new.to.items k)
+                (sym c.deref-3.ensures.value) (subst
+                (λ k. LeadsOn m k c.args.choice c.make.new.to.items c.make.new.shown.items)
                 (c.as_slice.ensures.value ∙ c.requires.hand v at) c.in_ok-make.ensures.leads));
             depth = refl;
             run = c.run_from.ensures;
@@ -89,20 +85,21 @@ returns-then-not-room-clause-beyond g c = λ t.
     let v = keyed_visit own c.index-from.result.now in
     let room : c.in_ok-room.room ≡ false = c.if-not-room.true in
     let key = packed_key c.deref-2.result.now in
-    let packed : key ≡ packed_key c.make.new.to.items = ap packed_key c.deref-2.ensures.value in
+    let packed : key ≡ packed_key c.make.new.to.items = rw c.deref-2.ensures.value in
     let full = c.in_ok-room.ensures.full room in
-    subst (λ zs. IsBeyond m zs c.args.limit c.args.i) (sym (c.in_ok-room.ensures.stays room))
-    (record {
+    rw (c.in_ok-room.ensures.stays room) (record {
       from = v;
       at = at;
       choice = c.args.choice;
       can = c.requires.choice;
       key = c.make.new.to.items;
       shown = c.make.new.shown.items;
-      leads = subst (λ k. LeadsOn m k c.args.choice c.make.new.to.items c.make.new.shown.items)
+      leads = subst
+          (λ k. LeadsOn m k c.args.choice c.make.new.to.items c.make.new.shown.items)
           (c.as_slice.ensures.value ∙ c.requires.hand v at) c.in_ok-make.ensures.leads;
       full = full.count;
-      absent = absent_key vs key c.make.new.to.items c.requires.searching.kept packed full.absent;
+      absent
+          = absent_key vs key c.make.new.to.items c.requires.searching.kept packed full.absent;
     })
 
 pub returns-then-not-room-clause-left : goal.returns-then-not-room-clause-left
@@ -112,12 +109,11 @@ returns-then-not-room-clause-left g c = λ t.
     let h = c.requires.searching in
     let stay = c.in_ok-room.ensures.stays c.if-not-room.true in
     record {
-      exploring = subst (λ zs. IsExploring m c.args.start.now zs s.found.items c.args.i c.args.choice) (sym stay)
-          h.exploring;
-      ranked = subst (λ zs. IsRanked (steps_of zs) s.found.items c.args.i c.args.choice) (sym stay) h.ranked;
+      exploring = rw stay h.exploring;
+      ranked = rw stay h.ranked;
       keyed = c.in_ok-room.ensures.keyed;
       told = h.told;
-      kept = subst AreKept (sym stay) h.kept;
+      kept = rw stay h.kept;
     }
 
 pub returns-clause-same : goal.returns-clause-same

@@ -1,7 +1,5 @@
-use Rattle.std.proofs.Common.{◌+◌, inl, inr, refl, ap, sym, subst, ◌∙◌, ◌++◌, [], ◌∷◌, arith, length, length-append}
-use Rattle.std.proofs.Common.{slice_get}
+use Rattle.std.proofs.Common.{◌+◌, inl, inr, refl, ap, sym, ◌∙◌, [], ◌∷◌, arith, length, length-append}
 use Rattle.pip_search.specs.Keys.{keyed_visit, keyed_visits}
-use Rattle.pip_search.specs.Naming.{AreNamed, IsAbsent}
 use Rattle.pip_search.specs.Collapsing.{keys_in}
 use Rattle.pip_search.specs.declared.visits.Visit.{Visit}
 use Rattle.pip_search.proofs.Keeping.{has_key, is_absent, is_there}
@@ -18,7 +16,7 @@ returns-then-is_some-clause-grew c = λ t.
     inl (record {
       same = refl;
       has = has_key (keyed_visits ks vs) key
-          (j, ap (λ zs. slice_get zs j) (bytes_are ks vs c.requires.keyed.count) ∙ there);
+          (j, rw (bytes_are ks vs c.requires.keyed.count, there));
     })
 
 pub returns-then-len-limit-clause-full : goal.returns-then-len-limit-clause-full
@@ -28,8 +26,8 @@ returns-then-len-limit-clause-full c = λ t.
     let key = c.args.key.now in
     let count = keyed_count ks vs c.requires.keyed.count in
     record {
-      count = omega (arith, count, c.args.visits.now.ok.0, c.len.ensures, c.if-len-limit.true);
-      absent = subst (λ zs. IsAbsent zs key) (sym (bytes_are ks vs c.requires.keyed.count))
+      count = omega arith;
+      absent = rw (bytes_are ks vs c.requires.keyed.count)
           (is_absent ks key c.find.result c.find.ensures (sym c.is_some.ensures ∙ c.if-is_some.false));
     }
 
@@ -50,10 +48,10 @@ returns-clause-keyed c =
       stored = c.in_ok-push.ensures.collapsed;
       count = ap length added ∙ length-append ks (key ∷ []) ∙ ap (λ n. n + 1) h.count
           ∙ sym (ap length c.in_ok-push-2.ensures.items ∙ length-append vs (one ∷ []));
-      named = subst (λ zs. AreNamed zs c.add.new.self) (sym added)
-          (named_more ks c.args.table.now c.add.new.self key c.hash_bytes-hash.result h.named c.hash_bytes-hash.ensures
-          (is_absent ks key c.find.result c.find.ensures (sym c.is_some.ensures ∙ c.if-is_some.false))
-          c.in_ok-add.ensures.filled c.in_ok-add.ensures.hashes c.in_ok-add.ensures.seed);
+      named = simp added (named_more ks c.args.table.now c.add.new.self key c.hash_bytes-hash.result h.named
+          c.hash_bytes-hash.ensures (is_absent ks key c.find.result c.find.ensures
+          (sym c.is_some.ensures ∙ c.if-is_some.false)) c.in_ok-add.ensures.filled c.in_ok-add.ensures.hashes
+          c.in_ok-add.ensures.seed);
     }
 
 pub returns-clause-grew : goal.returns-clause-grew
@@ -69,9 +67,12 @@ returns-clause-grew c = λ t.
     } in
     inr (record {
       visit = keyed_visit key one;
-      whole = ap (λ zs. keyed_visits zs c.push-2.new.self.items) c.in_ok-push.ensures.added
-          ∙ ap (λ ws. keyed_visits (ks ++ key ∷ []) ws) c.in_ok-push-2.ensures.items
-          ∙ keyed_more ks vs key one c.requires.keyed.count;
+      whole = cc (
+        c.in_ok-push.ensures.added,
+        c.in_ok-push-2.ensures.items,
+        keyed_more ks vs key one
+            c.requires.keyed.count,
+      );
       key_is = refl;
       parent_is = refl;
       choice_is = refl;

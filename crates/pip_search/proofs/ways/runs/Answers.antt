@@ -1,9 +1,8 @@
-use Rattle.std.proofs.Common.{◌≡◌, ◌+◌, List, ap, sym, subst, refl, ◌∙◌, length, reverse}
+use Rattle.std.proofs.Common.{◌≡◌, refl, length}
 use Rattle.std.specs.Prelude.{Some, slice_get}
 use Rattle.std.proofs.lemmas.List.{reverse-reverse}
 use Rattle.std.proofs.lemmas.Option.{slice_get_read}
-use Rattle.pip_search.specs.Ways.{AreRuns, choices_of, found_way, runs_of}
-use Rattle.pip_search.specs.declared.ways.Run.{Run}
+use Rattle.pip_search.specs.Ways.{found_way, runs_of}
 use Rattle.pip_search.proofs.Making.{at-same}
 use Rattle.pip_search.proofs.Places.{get-below, get-some}
 use Rattle.pip_search.proofs.Running.{are_runs, unfolded_runs}
@@ -27,7 +26,7 @@ runs_with-requires-clause-depth c = λ u e.
     let there : slice_get fs c.args.k ≡ Some own = slice_get_read fs (length fs) c.args.k own refl c.requires.place
     c.index-found.ensures in
     let from = c.requires.traced.labels c.args.k own there in
-    from.depth ∙ ap (λ y. y.depth + 1) (at-same vs own.at from.from u from.at e)
+    rw (from.depth, at-same vs own.at from.from u from.at e)
 
 pub returns-clause-way : goal.returns-clause-way
 returns-clause-way c = λ f e.
@@ -36,17 +35,15 @@ returns-clause-way c = λ f e.
     let own = c.index-found.result.now in
     let there : slice_get fs c.args.k ≡ Some own = slice_get_read fs (length fs) c.args.k own refl c.requires.place
     c.index-found.ensures in
-    c.in_ok-runs.ensures ∙ ap (λ y. reverse (runs_of (found_way vs y))) (at-same fs c.args.k own f there e)
+    rw (c.in_ok-runs.ensures, at-same fs c.args.k own f there e)
 
 pub returns-clause-unfolds : goal.returns-clause-unfolds
 returns-clause-unfolds c = λ f e.
     let way = found_way c.args.search.now.visits.items f in
-    ap (λ (rs : List Run). choices_of (reverse rs)) (returns-clause-way c f e)
-    ∙ ap choices_of (reverse-reverse (runs_of way)) ∙ unfolded_runs way
+    rw (returns-clause-way c f e, reverse-reverse (runs_of way), unfolded_runs way)
 
 pub returns-clause-differ : goal.returns-clause-differ
 returns-clause-differ c =
     let (f, e) = get-some c.args.search.now.found.items c.args.k c.requires.place in
     let way = found_way c.args.search.now.visits.items f in
-    subst AreRuns (sym (ap (λ (rs : List Run). reverse rs) (returns-clause-way c f e) ∙ reverse-reverse (runs_of way)))
-    (are_runs way)
+    rw (returns-clause-way c f e, reverse-reverse (runs_of way)) (are_runs way)

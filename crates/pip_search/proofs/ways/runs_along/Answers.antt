@@ -1,9 +1,9 @@
-use Rattle.std.proofs.Common.{◌∙◌, ap, sym, reverse}
+use Rattle.std.proofs.Common.{◌∙◌, sym}
 use Rattle.pip_search.proofs.Running.{runs_along_more, runs_none}
 use Rattle.pip_search.proofs.ways.runs_along.Goals as goal
 
 pub loop-choice-init : goal.loop-choice-init
-loop-choice-init c = c.new-runs.ensures.items ∙ sym (ap reverse runs_none)
+loop-choice-init c = c.new-runs.ensures.items ∙ sym (rw runs_none)
 
 pub loop-choice-preserved : goal.loop-choice-preserved
 loop-choice-preserved c =

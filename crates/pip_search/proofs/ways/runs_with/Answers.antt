@@ -1,8 +1,7 @@
-use Rattle.std.proofs.Common.{arith, ◌≡◌, ◌+◌, ◌-◌, ◌<◌, ◌++◌, ◌∷◌, List, ap, sym, refl, ◌∙◌, length, reverse}
+use Rattle.std.proofs.Common.{arith, ◌≡◌, ◌+◌, ◌-◌, ◌<◌, ◌∷◌, sym, refl, length}
 use Rattle.std.specs.Prelude.{Some, slice_get}
 use Rattle.std.proofs.lemmas.Option.{slice_get_read}
-use Rattle.pip_search.specs.Ways.{run_before, run_of, runs_of, way_to}
-use Rattle.pip_search.specs.declared.ways.Run.{Run}
+use Rattle.pip_search.specs.Ways.{runs_of, way_to}
 use Rattle.pip_search.proofs.Making.{at-same}
 use Rattle.pip_search.proofs.Places.{get-some}
 use Rattle.pip_search.proofs.Running.{all_joined, begins_anew, goes_on, runs_first}
@@ -15,14 +14,11 @@ loop-j-init c =
     let vs = c.args.search.now.visits.items in
     record {
       place = c.requires.place;
-      above = λ u e. let d = c.requires.depth u e in omega arith;
+      above = λ u e. omega arith;
       joined = λ u e.
           let d = c.requires.depth u e in
           let one : c.args.depth - u.depth ≡ 1 = omega arith in
-          ap (λ rs. rs ++ run_before (run_of c.args.choice (c.args.depth - u.depth)) (runs_of (way_to vs c.args.at)))
-          c.new-runs.ensures.items
-          ∙ ap (λ n. run_before (run_of c.args.choice n) (runs_of (way_to vs c.args.at))) one
-          ∙ runs_first c.args.choice (way_to vs c.args.at);
+          rw (c.new-runs.ensures.items, one, runs_first c.args.choice (way_to vs c.args.at));
     }
 
 pub loop-j-preserved : goal.loop-j-preserved
@@ -35,7 +31,7 @@ loop-j-preserved c =
     let t = c.requires.traced in
     let at : slice_get vs j ≡ Some v = slice_get_read vs (length vs) j v refl c.loop-j.invariant.place
     c.index-visit.ensures in
-    let some : 0 < j = omega (arith, c.loop-j-test.true) in
+    let some : 0 < j = omega arith in
     let r = run_back vs fs t (j + 1) j v (omega arith) some at in
     let above : v.depth < c.loop-j.end = c.loop-j.invariant.above v at in
     let low = r.low in
@@ -46,33 +42,31 @@ loop-j-preserved c =
       | then-visit-last+in_ok-push w ↦
           record {
             place = omega arith;
-            above = λ u e. let d : r.start.depth ≡ u.depth = ap (λ y. y.depth) (at-same vs v.run r.start u r.at e) in
-                let n = w.end-is in omega arith;
+            above = λ u e. let d : r.start.depth ≡ u.depth = rw (at-same vs v.run r.start u r.at e) in
+                omega arith;
             joined = λ u e.
-                ap (λ rs. rs.items ++ run_before (run_of c.if-visit-last.last (c.if-visit-last.end - u.depth))
-                (runs_of (way_to vs v.run))) w.runs-is
-                ∙ ap (λ x. w.push.new.self.items ++ run_before (run_of x (c.if-visit-last.end - u.depth))
-                (runs_of (way_to vs v.run))) w.last-is
-                ∙ ap (λ x. w.push.new.self.items ++ run_before (run_of v.choice (x - u.depth))
-                (runs_of (way_to vs v.run))) w.end-is
-                ∙ begins_anew vs fs t c.loop-j.runs.items c.loop-j.last c.loop-j.end j all v at
-                some above (c.loop-j.invariant.joined v at) (λ same. w.if-visit-last.true (sym same))
-                w.push.new.self.items w.in_ok-push.ensures.items u e;
+                rw (
+                  w.runs-is,
+                  w.last-is,
+                  w.end-is,
+                  begins_anew vs fs t c.loop-j.runs.items c.loop-j.last c.loop-j.end
+                      j all v at some above (c.loop-j.invariant.joined v at) (λ same. w.if-visit-last.true (sym same))
+                      w.push.new.self.items w.in_ok-push.ensures.items u e,
+                );
           }
       | else-visit-last w ↦
           record {
             place = omega arith;
-            above = λ u e. let d : r.start.depth ≡ u.depth = ap (λ y. y.depth) (at-same vs v.run r.start u r.at e) in
-                let n = w.end-is in omega arith;
+            above = λ u e. let d : r.start.depth ≡ u.depth = rw (at-same vs v.run r.start u r.at e) in
+                omega arith;
             joined = λ u e.
-                ap (λ rs. rs.items ++ run_before (run_of c.if-visit-last.last (c.if-visit-last.end - u.depth))
-                (runs_of (way_to vs v.run))) w.runs-is
-                ∙ ap (λ x. c.loop-j.runs.items ++ run_before (run_of x (c.if-visit-last.end - u.depth))
-                (runs_of (way_to vs v.run))) w.last-is
-                ∙ ap (λ x. c.loop-j.runs.items ++ run_before (run_of c.loop-j.last (x - u.depth))
-                (runs_of (way_to vs v.run))) w.end-is
-                ∙ goes_on vs fs t c.loop-j.runs.items c.loop-j.last c.loop-j.end j all v at
-                some above (c.loop-j.invariant.joined v at) (sym w.if-visit-last.false) u e;
+                rw (
+                  w.runs-is,
+                  w.last-is,
+                  w.end-is,
+                  goes_on vs fs t c.loop-j.runs.items c.loop-j.last c.loop-j.end j
+                      all v at some above (c.loop-j.invariant.joined v at) (sym w.if-visit-last.false) u e,
+                );
           }
     ]
 
@@ -84,13 +78,16 @@ loop-j-smaller c =
     let at : slice_get vs j ≡ Some v = slice_get_read vs (length vs) j v refl c.loop-j.invariant.place
     c.index-visit.ensures in
     (run_back vs c.args.search.now.found.items c.requires.traced (j + 1) j v (omega arith)
-    (omega (arith, c.loop-j-test.true)) at).low
+    (omega arith) at).low
 
 pub returns : goal.returns
 returns c =
     let vs = c.args.search.now.visits.items in
     let (u, at) = get-some vs c.loop-j.j c.loop-j.invariant.place in
-    c.reverse.ensures.items ∙ ap (λ (rs : List Run). reverse rs) (c.in_ok-push-2.ensures.items
-    ∙ all_joined vs c.args.search.now.found.items c.requires.traced c.loop-j.runs.items c.loop-j.last c.loop-j.end
-    c.loop-j.j (runs_of (c.args.choice ∷ way_to vs c.args.at)) u at c.loop-j-test.false
-    (c.loop-j.invariant.joined u at))
+    rw (
+      c.reverse.ensures.items,
+      c.in_ok-push-2.ensures.items,
+      all_joined vs c.args.search.now.found.items
+          c.requires.traced c.loop-j.runs.items c.loop-j.last c.loop-j.end c.loop-j.j
+          (runs_of (c.args.choice ∷ way_to vs c.args.at)) u at c.loop-j-test.false (c.loop-j.invariant.joined u at),
+    )

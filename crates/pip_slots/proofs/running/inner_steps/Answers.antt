@@ -1,7 +1,6 @@
-use Rattle.std.proofs.Common.{◌≡◌, ◌+◌, ◌-◌, arith, rules, subst}
+use Rattle.std.proofs.Common.{◌≡◌, ◌-◌, arith, rules}
 use Rattle.std.proofs.lemmas.Result.{MatchResult-from_err}
-use Rattle.pip_lines.proofs.Progress.{Progress, progress_end}
-use Rattle.pip_slots.specs.Slots.{slot_turns}
+use Rattle.pip_lines.proofs.Progress.{progress_end}
 use Rattle.pip_switch.specs.Standing.{StandsAs}
 use Rattle.pip_slots.proofs.Progressing.{inners_begun, inners_cut, inners_on}
 use Rattle.pip_slots.proofs.Working.{inners_work, inners_work_cut, inners_work_on}
@@ -40,10 +39,7 @@ loop-k-preserved g c = record {
 pub returns-clause-acts : goal.returns-clause-acts
 returns-clause-acts g c = λ w h.
     let e : c.args.turns - c.loop-k.k ≡ 0 = omega arith in
-    progress_end _ _ _ w _ (subst (λ n. Progress (StandsAs c.loop-k.machine) (g.K.Sink.history c.args.sink.now).written
-    (g.K.Sink.history c.loop-k.sink).written w (slot_turns w c.args.turns c.args.t) (λ v. slot_turns v n (c.args.t +
-    c.loop-k.k))) e
-    (c.loop-k.invariant.progress w h))
+    progress_end _ _ _ w _ (rw e at (c.loop-k.invariant.progress w h))
 
 pub returns-clause-work : goal.returns-clause-work
 returns-clause-work g c = λ w h. omega (arith, (c.loop-k.invariant.work w h).within)

@@ -27,9 +27,7 @@ returns-in_err-one_slot-clause-work g c = λ w h.
 
 pub overflow_add-t : goal.overflow_add-t
 overflow_add-t g c =
-    let ss = c.args.slots.now in
-    let i = c.loop-i.i in
-    omega (arith, steps_left ss i (get_or ss i none) (drop-cons ss i none c.loop-i-test.true))
+    omega arith
 
 pub one_slot-requires-clause-small : goal.one_slot-requires-clause-small
 one_slot-requires-clause-small g c =

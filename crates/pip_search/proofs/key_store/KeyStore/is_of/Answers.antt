@@ -1,4 +1,4 @@
-use Rattle.std.proofs.Common.{rules, ◌≡◌, ◌∙◌, ◌++◌, ◌-◌, ◌<◌, ◌≤◌, [], All, ap, sym, subst, arith, length}
+use Rattle.std.proofs.Common.{rules, ◌≡◌, ◌∙◌, ◌++◌, ◌-◌, ◌≤◌, [], sym, arith, length}
 use Rattle.std.proofs.lemmas.List.{length-take-le, nil_from_length, take-append-drop}
 use Rattle.std.proofs.lemmas.Bool.Decides.{nat_tests}
 use Rattle.pip_search.specs.Collapsing.{blocks_of}
@@ -11,7 +11,7 @@ pub returns-then-saturating_sub-key-clause-other : goal.returns-then-saturating_
 returns-then-saturating_sub-key-clause-other c = λ no same.
     let long = key_length (blocks_of c.args.self.now.blocks) c.args.entry.now c.in-Some.count
     (unpacked_key c.in-Some.more.now) c.requires.numbers c.in-Some.ensures.word in
-    c.if-saturating_sub-key.true (c.saturating_sub.ensures ∙ sym long ∙ ap length same)
+    c.if-saturating_sub-key.true (rw (c.saturating_sub.ensures, ← long, same))
 
 pub returns-then-not-is_block-clause-other : goal.returns-then-not-is_block-clause-other
 returns-then-not-is_block-clause-other c = λ no same.
@@ -24,13 +24,13 @@ returns-then-not-is_block-clause-other c = λ no same.
     let count : c.in-Some.count - 1 ≡ length c.args.key.now = omega arith in
     let key = key_begins blocks c.args.key.now (unpacked_key c.args.entry.now) c.in-Some.count
     (unpacked_key c.in-Some.more.now) c.in-Some.ensures.word count in
-    let few : 24 ≤ length rest = omega (arith, cases.2) in
+    let few : 24 ≤ length rest = omega arith in
     let long : length front ≡ length c.block-block.result.now =
-    ap length cases.0 ∙ length-take-le 24 rest few ∙ sym c.block-block.ensures.size in
+    rw (cases.0, length-take-le 24 rest few, ← c.block-block.ensures.size) in
     c.is_block.ensures.other c.if-not-is_block.true
     (begins_same blocks c.in-Some-next_word.number (unpacked_key c.loop-number.numbers.now)
     (unpacked_key c.in-Some-next_word.more.now) c.block-block.result.now c.in-Some-next_word.ensures.word
-    c.block-block.ensures.at rest front after whole long (c.loop-number.invariant.1.0 (sym key ∙ same)))
+    c.block-block.ensures.at rest front after whole long (c.loop-number.invariant.1.0 (cc)))
 
 pub returns-in-None-clause-same : goal.returns-in-None-clause-same
 returns-in-None-clause-same c = λ yes.
@@ -40,11 +40,11 @@ returns-in-None-clause-same c = λ yes.
     let key = key_begins blocks c.args.key.now (unpacked_key c.args.entry.now) c.in-Some.count
     (unpacked_key c.in-Some.more.now) c.in-Some.ensures.word count in
     let less = c.in-None.ensures.cases in
-    let low : length rest ≤ length c.block-block.result.now = omega (arith, less, c.block-block.ensures.size) in
+    let low : length rest ≤ length c.block-block.result.now = omega arith in
     let front = begins_last blocks c.in-Some-next_word.number (unpacked_key c.loop-number.numbers.now)
     (unpacked_key c.in-Some-next_word.more.now) c.block-block.result.now c.in-Some-next_word.ensures.word
     c.block-block.ensures.at rest low in
-    key ∙ c.loop-number.invariant.0 (front ∙ c.is_same.ensures.same yes)
+    cc (c.loop-number.invariant.0 (front ∙ c.is_same.ensures.same yes))
 
 pub returns-in-None-clause-other : goal.returns-in-None-clause-other
 returns-in-None-clause-other c = λ no same.
@@ -54,11 +54,11 @@ returns-in-None-clause-other c = λ no same.
     let key = key_begins blocks c.args.key.now (unpacked_key c.args.entry.now) c.in-Some.count
     (unpacked_key c.in-Some.more.now) c.in-Some.ensures.word count in
     let less = c.in-None.ensures.cases in
-    let low : length rest ≤ length c.block-block.result.now = omega (arith, less, c.block-block.ensures.size) in
+    let low : length rest ≤ length c.block-block.result.now = omega arith in
     let front = begins_last blocks c.in-Some-next_word.number (unpacked_key c.loop-number.numbers.now)
     (unpacked_key c.in-Some-next_word.more.now) c.block-block.result.now c.in-Some-next_word.ensures.word
     c.block-block.ensures.at rest low in
-    c.is_same.ensures.other no (sym front ∙ c.loop-number.invariant.1.0 (sym key ∙ same))
+    c.is_same.ensures.other no (cc (c.loop-number.invariant.1.0 (sym key ∙ same)))
 
 pub loop-number-preserved : goal.loop-number-preserved
 loop-number-preserved c =
@@ -78,7 +78,7 @@ loop-number-preserved c =
       λ h. c.loop-number.invariant.0 (begins_more blocks n words ns block is at rest front after whole same h),
       (
         λ h. begins_back blocks n words ns block is at rest front after whole same (c.loop-number.invariant.1.0 h),
-        all_next (length blocks) n ns (subst (All (λ k. k < length blocks)) is c.loop-number.invariant.1.1),
+        all_next (length blocks) n ns (rw is at c.loop-number.invariant.1.1),
       ),
     )
 
@@ -90,8 +90,8 @@ returns-clause-same c = λ yes.
     let key = key_begins blocks c.args.key.now (unpacked_key c.args.entry.now) c.in-Some.count
     (unpacked_key c.in-Some.more.now) c.in-Some.ensures.word count in
     let none : length rest ≡ 0 = grind (arith, nat_tests) in
-    key ∙ c.loop-number.invariant.0 (begins_none blocks rest (unpacked_key c.loop-number.numbers.now)
-    c.in_default-next_word.ensures.word ∙ sym (nil_from_length rest none))
+    cc (c.loop-number.invariant.0 (begins_none blocks rest (unpacked_key c.loop-number.numbers.now)
+    c.in_default-next_word.ensures.word ∙ sym (nil_from_length rest none)))
 
 pub returns-clause-other : goal.returns-clause-other
 returns-clause-other c = λ no same.
@@ -100,7 +100,10 @@ returns-clause-other c = λ no same.
     let count : c.in-Some.count - 1 ≡ length c.args.key.now = omega arith in
     let key = key_begins blocks c.args.key.now (unpacked_key c.args.entry.now) c.in-Some.count
     (unpacked_key c.in-Some.more.now) c.in-Some.ensures.word count in
-    let none : [] ≡ rest = sym (begins_none blocks rest (unpacked_key c.loop-number.numbers.now)
-    c.in_default-next_word.ensures.word) ∙ c.loop-number.invariant.1.0 (sym key ∙ same) in
-    let zero : length rest ≡ 0 = sym (ap length none) in
+    let none : [] ≡ rest = cc (
+      begins_none blocks rest (unpacked_key c.loop-number.numbers.now)
+          c.in_default-next_word.ensures.word,
+      c.loop-number.invariant.1.0 (sym key ∙ same),
+    ) in
+    let zero : length rest ≡ 0 = rw (← none) in
     grind (arith, nat_tests)

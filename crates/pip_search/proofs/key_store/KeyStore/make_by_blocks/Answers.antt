@@ -1,10 +1,9 @@
-use Rattle.std.proofs.Common.{rules, ◌≡◌, ◌+◌, ◌-◌, ◌∙◌, ◌++◌, [], ap, sym, refl, arith, length}
+use Rattle.std.proofs.Common.{rules, ◌≡◌, ◌-◌, ◌∙◌, ◌++◌, [], sym, refl, arith, length}
 use Rattle.std.proofs.Common.{append-nil, append_assoc}
 use Rattle.std.proofs.lemmas.List.{nil_from_length, take-append-drop}
 use Rattle.std.specs.Prelude.{replicate}
 use Rattle.std.proofs.lemmas.Bool.Decides.{nat_tests}
 use Rattle.pip_search.specs.Collapsing.{blocks_of}
-use Rattle.pip_search.specs.Packing.{packed_word}
 use Rattle.pip_search.proofs.Collapsed.{begun_done, begun_more, begun_none, extended_again}
 use Rattle.pip_search.proofs.key_store.KeyStore.make_by_blocks.Goals as goal
 
@@ -15,8 +14,8 @@ loop-block-init c = record {
   entries = refl;
   bytes = [];
   begun = begun_none (blocks_of c.args.self.now.blocks) (length c.args.key.now) c.push_word.new.bytes.items
-      (omega (arith, c.if-key.false))
-      (c.in_ok-push_word.ensures ∙ ap (λ x. x ++ packed_word (length c.args.key.now + 1)) c.clear.ensures.items);
+      (omega arith)
+      (rw (c.in_ok-push_word.ensures, c.clear.ensures.items));
   cut = refl;
 }
 
@@ -38,7 +37,7 @@ loop-block-preserved c =
       bytes = h.bytes ++ block;
       begun = begun_more before after (length c.args.key.now) h.bytes block c.loop-block.self.entry.items
           c.add_number.new.self.entry.items own.extended h.begun (own.added (search rules));
-      cut = append_assoc h.bytes block c.in-Some.more.now ∙ ap (λ x. h.bytes ++ x) (sym whole) ∙ h.cut;
+      cut = rw (append_assoc h.bytes block c.in-Some.more.now, ← whole, h.cut);
     }
 
 pub returns-then-is_empty-clause-made : goal.returns-then-is_empty-clause-made
@@ -48,7 +47,7 @@ returns-then-is_empty-clause-made c = λ yes.
     let rest = c.loop-block.rest.now in
     let zero : length rest ≡ 0 = grind (arith, nat_tests) in
     begun_done (blocks_of c.loop-block.self.blocks) key [] h.bytes c.loop-block.self.entry.items h.begun
-    (sym (append-nil h.bytes) ∙ ap (λ x. h.bytes ++ x) (sym (nil_from_length rest zero)) ∙ h.cut ∙ sym (append-nil key))
+    (cc (append-nil h.bytes, nil_from_length rest zero, h.cut, append-nil key))
 
 pub returns-clause-made : goal.returns-clause-made
 returns-clause-made c = λ yes.
@@ -63,4 +62,4 @@ returns-clause-made c = λ yes.
     let begun = begun_more before after (length key) h.bytes block c.loop-block.self.entry.items
     c.add_number-2.new.self.entry.items own.extended h.begun (own.added yes) in
     begun_done after key zeros (h.bytes ++ block) c.add_number-2.new.self.entry.items begun
-    (ap (λ x. h.bytes ++ x) c.filled.ensures ∙ sym (append_assoc h.bytes rest zeros) ∙ ap (λ x. x ++ zeros) h.cut)
+    (rw (c.filled.ensures, ← append_assoc h.bytes rest zeros, h.cut))

@@ -1,5 +1,5 @@
-use Rattle.std.proofs.Common.{rules, ◌≡◌, ◌∙◌, ◌∷◌, ◌++◌, [], ap, sym, subst}
-use Rattle.pip_search.specs.Collapsing.{IsEntryOf, blocks_of}
+use Rattle.std.proofs.Common.{rules, ◌≡◌, ◌∷◌}
+use Rattle.pip_search.specs.Collapsing.{blocks_of}
 use Rattle.pip_search.proofs.Collapsed.{made_entry, whole_entry}
 use Rattle.pip_search.proofs.key_store.KeyStore.make_entry.Goals as goal
 
@@ -11,6 +11,6 @@ pub returns-clause-made : goal.returns-clause-made
 returns-clause-made c =
     let blocks = blocks_of c.make_by_blocks.new.self.blocks in
     let key = c.args.key.now in
-    let is : c.extend_from_slice.new.self.items ≡ 0 ∷ key = c.in_ok-extend_from_slice.ensures.items
-    ∙ ap (λ x. x ++ key) (c.in_ok-push.ensures.items ∙ ap (λ x. x ++ 0 ∷ []) c.clear.ensures.items) in
-    subst (IsEntryOf blocks key) (sym is) (whole_entry blocks key)
+    let is : c.extend_from_slice.new.self.items ≡ 0 ∷ key = rw
+    (c.in_ok-extend_from_slice.ensures.items, c.in_ok-push.ensures.items, c.clear.ensures.items) in
+    rw is (whole_entry blocks key)

@@ -1,4 +1,4 @@
-use Rattle.std.proofs.Common.{◌≡◌, ◌∙◌, ◌∷◌, ◌++◌, [], ap, All, map}
+use Rattle.std.proofs.Common.{◌≡◌, ◌∷◌, ◌++◌, [], All, map}
 use Rattle.pip_search.specs.Collapsing.{IsKeyEntry, blocks_of, key_of_entry, keys_in}
 use Rattle.pip_search.specs.Storing.{listed}
 use Rattle.pip_search.proofs.Collapsed.{entries_more}
@@ -14,8 +14,7 @@ pushed c =
     let y = c.make_entry.new.self in
     entries_more (blocks_of x.blocks) (blocks_of y.blocks) (listed x.entries) (listed c.push.new.self) c.args.key.now
     y.entry.items own.extended c.requires.collapsed.entries own.made
-    (c.in_ok-push.ensures.added ∙ ap (λ e. listed c.make_entry.new.self.entries ++ e ∷ []) c.deref.ensures.value
-    ∙ ap (λ es. listed es ++ y.entry.items ∷ []) own.entries)
+    (rw (c.in_ok-push.ensures.added, c.deref.ensures.value, own.entries))
 
 pub returns-clause-collapsed : goal.returns-clause-collapsed
 returns-clause-collapsed c = record {

@@ -1,7 +1,6 @@
-use Rattle.std.proofs.Common.{◌∙◌, Some, ap, sym}
 use Rattle.pip_search.proofs.Steps.{at_hand}
 use Rattle.pip_search.proofs.searching.Search.read_key.Goals as goal
 
 pub returns : goal.returns
 returns c = at_hand c.args.self.now c.args.place c.deref.result.now c.unpack.new.key.items
-    (c.in_ok-read.ensures ∙ ap Some (sym c.deref.ensures.value)) c.in_ok-unpack.ensures
+    (rw (c.in_ok-read.ensures, ← c.deref.ensures.value)) c.in_ok-unpack.ensures

@@ -9,8 +9,7 @@ make-requires-clause-key g c =
     let m = g.Self.System.model (g.Self.System.base c.args.self.now) in
     let i = c.loop-choice.choice-index in
     let same : c.swap.new.x.items ≡ c.loop-choice.to.items = cc in
-    subst (λ b. IsKey (g.Self.System.model b) c.deref.result.now) (sym c.loop-choice.invariant.base)
-    (subst (λ k. IsKey m k) (sym (c.deref.ensures.value ∙ same))
+    rw c.loop-choice.invariant.base (subst (λ k. IsKey m k) (sym (c.deref.ensures.value ∙ same))
     (key_along m c.args.from.now (take i c.args.way.now) c.loop-choice.to.items c.loop-choice.invariant.leads
     c.requires.key))
 
@@ -26,7 +25,7 @@ loop-choice-preserved g c =
       base = c.in_ok-make.ensures.base ∙ c.loop-choice.invariant.base;
       leads = along_more m c.args.from.now c.args.way.now c.loop-choice.to.items next shown i (omega arith)
           c.loop-choice.invariant.leads
-          (subst (λ k. LeadsOn m k d next shown) (c.deref.ensures.value ∙ same)
-          (subst (λ b. LeadsOn (g.Self.System.model b) c.deref.result.now d next shown) c.loop-choice.invariant.base
+          (rw (← same, ← c.deref.ensures.value) (subst
+          (λ b. LeadsOn (g.Self.System.model b) c.deref.result.now d next shown) c.loop-choice.invariant.base
           c.in_ok-make.ensures.leads));
     }
