@@ -214,7 +214,10 @@ def learned(world: World, cpu: int, out: LeftOut, deeds: list[against.Deed], nam
 
 
 def taken(search: Search, out: LeftOut) -> str:
-    """A fault that a partition takes gets words that can be any, and the menu has zeros."""
+    """A fault that a partition takes gets words that can be any, and the menu has zeros. Without children there is
+    nothing to say."""
+    if not out.pages:
+        return "no partition runs but the root"
     for line in search.lines:
         found = SWITCH.fullmatch(line.text)
         if found and int(found[1]) in out.own and int(found[3]) in FAULTS:
@@ -266,7 +269,8 @@ def report(program: str, asked: Asked, names: sources.Source) -> list[str]:
     is_closed = found.search.last.endswith("closed")
     of_menu = "" if is_closed else "the search didn't close"
     rows = [Row("closed", f"{'yes' if is_closed else 'no'}, {found.search.last}", f"{proved}, ClosedNamesMenus"),
-            Row("every program", told(found)[0], found.why or f"{proved}, AwayTextsNamePrograms"),
+            Row("every program", told(found)[0],
+                "nothing is proved of every program" if found.why else f"{proved}, AwayTextsNamePrograms"),
             *lines_of(found.search, proved, of_menu), *turns_of(program, asked, found, proved, of_menu),
             longest(asked, found, proved)]
     return [f"{row.what:<16}{row.answer}    # {row.by}" for row in rows]
