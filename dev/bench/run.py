@@ -1,24 +1,25 @@
 """Prints the instructions that the program takes for many things, and beside them those of another one.
 
-    dev/bench/run [--program PATH] [--plain | --beside PATH] [--tables | --growth]
+    dev/bench/run [--program PATH] [--plain | --beside PATH] [--tables | --slopes | --growth]
 
 They are of its start, of a line of each kind, of partitions that are made and deleted, of events that switch, of
 assembly texts, of the steps of runs, of texts of frames, and of a generated load. The programs are the built ones:
 build them first, by ./pip and ./lab. --program names another pip, with the lab's program beside it or in the
 environment's LAB. --plain builds the plain program of dev/bench/plain by cargo, and puts its figures beside; --beside
 does so for any program that has the commands of both. --tables prints the rows of the tables of docs/PERFORMANCE.md,
-with times and worst inputs, too; it takes half an hour. --growth writes the figures of deletions that
-dev/bench/growth.gp draws."""
+with times and worst inputs, too; it takes half an hour. --slopes prints those of the table of slopes, in some minutes.
+--growth writes the figures of deletions that dev/bench/growth.gp draws."""
 
 from __future__ import annotations
 
 import argparse
 import os
+from collections.abc import Iterator
 
 from common import calling
 from common.calling import REPOSITORY, Failed
 from reference import plain
-from . import deletions, timing
+from . import deletions, slopes, timing
 from .count import PROGRAM, Counted
 from .figures import Figures
 
@@ -36,10 +37,12 @@ def show(given: argparse.Namespace) -> None:
     if given.growth:
         growth(Figures(program))
         return
-    if given.tables:
+    if given.tables or given.slopes:
         if path is None:
             raise Failed("the tables have two programs: add --plain or --beside PATH")
-        tables(program, Counted(path, is_both=True))
+        both = program, Counted(path, is_both=True)
+        for row in slopes.rows(*both) if given.slopes else tables(*both):
+            print(row, flush=True)
         return
     print(f"{'instructions of':90} {'ours':>10}" + ("" if path is None else f" {'beside':>10} {'times':>6}"))
     others = None if path is None else Figures(Counted(path, is_both=True)).figures()
@@ -47,7 +50,7 @@ def show(given: argparse.Namespace) -> None:
         print(shown(what, ours, None if others is None else next(others)[1]), flush=True)
 
 
-def tables(ours: Counted, plain: Counted) -> None:
+def tables(ours: Counted, plain: Counted) -> Iterator[str]:
     """The rows of the page's tables as they are now, each by the first cell, or by both before its numbers; and then
     the worst inputs of which the page has no row."""
     both, worst = [dict(Figures(program).figures()) for program in (ours, plain)], dict.fromkeys(timing.WORST)
@@ -63,9 +66,9 @@ def tables(ours: Counted, plain: Counted) -> None:
             line = timing.row_of_worst(*key, ours, plain)
         elif not line.startswith("|"):
             continue
-        print(line, flush=True)
+        yield line
     for key in worst:
-        print(timing.row_of_worst(*key, ours, plain), flush=True)
+        yield timing.row_of_worst(*key, ours, plain)
 
 
 def growth(figures: Figures) -> None:
@@ -87,6 +90,7 @@ def main() -> None:
     other.add_argument("--beside", metavar="PATH", help="beside this program")
     kind = parser.add_mutually_exclusive_group()
     kind.add_argument("--tables", action="store_true", help="the rows of the tables of docs/PERFORMANCE.md")
+    kind.add_argument("--slopes", action="store_true", help="the rows of the table of slopes of docs/PERFORMANCE.md")
     kind.add_argument("--growth", action="store_true", help="the figures that dev/bench/growth.gp draws")
     given = parser.parse_args()
     calling.guarded("run", lambda: show(given))
