@@ -4,7 +4,7 @@ script.
     tools/every FILE STATES [FROM [DEPTH]] [--after STEPS SEED | --after NAME [SEED]]
     tools/every FILE STATES [FROM [DEPTH]] --until WORDS
     tools/every FILE STATES [FROM [DEPTH]] --trace N
-    tools/every --any FILE [STATES [FROM]] [--after ..]
+    tools/every --any FILE [STATES [FROM]] [--after ..] [--to MENU]
     tools/every --report FILE [STATES [FROM]] [--after ..]
 
 The lines are those of the program's command `every`, or of `against` where there is a menu; with --after it searches
@@ -212,6 +212,7 @@ def main() -> None:
     one.add_argument("--script", metavar="N", help="the way to line N as a script for ./pip script")
     one.add_argument("--any", action="store_true", help="whether it holds whatever the children's programs are")
     one.add_argument("--report", action="store_true", help="the same, and whether each child's turn comes")
+    parser.add_argument("--to", metavar="MENU", help="with --any and --report: write their menu to this file")
     calling.take_program(parser)
     calling.started(parser, work)
 
@@ -267,8 +268,11 @@ def work(given: argparse.Namespace) -> int | None:
     given.states = given.states or every_program.STATES
     asked = given_of(given)
     if given.any or given.report:
-        tell = every_program.told_of if given.any else every_program.report
-        print("\n".join(tell(given.program, asked.asked, asked.names)))
+        found = every_program.answer(given.program, asked.asked, asked.names)
+        if given.to:
+            calling.write(given.to, every_program.text_of(found.out.menu()))
+        print("\n".join(every_program.told(found) if given.any else
+                        every_program.report(given.program, asked.asked, found)))
         return 0
     number = given.trace or given.script
     search = searching.kept(searching.kept_at(given.program, asked.asked)) if number else None

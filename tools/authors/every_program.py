@@ -242,10 +242,6 @@ def listed(numbers: list[int]) -> str:
     return " and ".join(filter(None, (", ".join(map(str, numbers[:-1])), *map(str, numbers[-1:]))))
 
 
-def told_of(program: str, asked: Asked, names: sources.Source) -> list[str]:
-    return told(answer(program, asked, names))
-
-
 def told(found: Answer) -> list[str]:
     end = END.fullmatch(found.search.last)
     assert end
@@ -262,9 +258,8 @@ class Row(NamedTuple):
     by: str
 
 
-def report(program: str, asked: Asked, names: sources.Source) -> list[str]:
+def report(program: str, asked: Asked, found: Answer) -> list[str]:
     """Ten lines on one monitor."""
-    found = answer(program, asked, names)
     proved = "unproved" if program == calling.UNPROVED else "proved"
     is_closed = found.search.last.endswith("closed")
     of_menu = "" if is_closed else "the search didn't close"
