@@ -5,7 +5,7 @@ a `Blank` of std's ledger, at the ledger `Brand` or at one that the caller has c
 and the module `ledger` that has them, whatever else they are called in a `use`, a type's alias or a macro's argument.
 The commands may name them, and programs, which are known by their `fn main`; and so may crates of tests, on which no
 other crate may stand. The search of pip_every has a counter of its own, too, and so has the copy with which a journal
-of pip_journal begins: a search's choices are calls of a trait of pip_search, which knows no counter, so they count for
+begins: a search's choices are calls of a trait of pip_search, which knows no counter, so they count for
 nobody."""
 
 import os
@@ -34,7 +34,7 @@ HARMLESS = re.compile(r"""
     | \benum\s+\w+(?:<[^>{]*>)?\s*\{\s*Blank\b | \b(?:ScriptLine|Statement)::Blank\b(?!\s*::) | \bSome\s+Blank\b
     """, re.VERBOSE)
 
-# The planted ways to make a counter, and the lines of pip_base that define it, those of pip_journal that let a caller
+# The planted ways to make a counter, and the lines of pip_base that define it, those of the journal that let a caller
 # pick the words of a memory and that copy them, and those of the search.
 PLANTED = blocks("data/counters.txt", __file__)
 DEFINITION = {path: [escaped(line).decode() for line in PLANTED.pop(path).splitlines()]

@@ -6,6 +6,8 @@
 //! the bytes so far, and then the second pass over the lines still to come, is the second pass over all lines
 //! (`bytes_said`). Names are parts of the text, in a table by their hashes and in an ordered map, which clauses see as
 //! one function (`address_of_name`).
+//!
+//! [`statement`] says what one line says, [`disassemble`] writes an image as a text.
 #![tactic(auto)]
 
 mod assembler;

@@ -20,6 +20,8 @@
 //!   one takes a step for each slot, each word of its MMU directory and each frame of the memory.
 //!
 //! So no part looks at one node because of another that isn't its parent or its child.
+//!
+//! [`read_core`] reads the text of a raw memory into frames.
 #![tactic(auto)]
 
 mod auditor;

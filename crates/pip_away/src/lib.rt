@@ -2,7 +2,7 @@
 //! program of a child".
 //!
 //! [`Blind`] names the partitions and the words that are left out. For each event there is a test of whether it reads
-//! one of these words, before it is made: it answers exactly `reads_outside` (specs/Tests of pip_outside) of each world
+//! one of these words, before it is made: it answers exactly `reads_outside` (specs/Tests of pip_guests) of each world
 //! for which the machine stands. [`turn_looks_away`] is that of all events of a turn, each at its moment, and
 //! [`is_confined`] says whether what runs can do nothing but stay inside, or exit.
 #![tactic(auto)]

@@ -11,6 +11,12 @@
 //! Most commands read an image first (specs/ImageDues): [`loading`] reads one into a new machine (`LoadsImage`) and
 //! makes a callback of each plan, [`begun`] reads one into frames (`LoadsFrames`), [`planned_lines`] are the interrupt
 //! lines of its plans, and [`pass`] makes steps and shows nothing.
+//!
+//! [`command_line`] asks the host for the words of a command line, and [`show_usage`] is what a program does with words
+//! that are none of its forms (`unknown_due`). A program reads its words into a command of its own, and chooses by it
+//! what is due. What is proved of any such program is here: that a command's numbers are within the limits of its words
+//! (proofs/Asked, proofs/Within), and that every input within the limit is answered, or there is no memory
+//! (`AreInputsAnswered`, proofs/Answered).
 #![tactic(auto)]
 
 pub mod begun;

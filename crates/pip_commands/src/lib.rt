@@ -13,7 +13,7 @@
 //!   the trace, the tree or the frames.
 //! - `native` has pip_children read an image and build the children, and its monitor is the scheduling of their steps.
 //! - `soak` has pip_soak make its load on a new machine, and write the counts with pip_dump's totals of its frames.
-//! - `audit` takes all its memory, has pip_core_text read frames and pip_audit judge them (`found_answer`).
+//! - `audit` takes all its memory, has pip_audit read frames and judge them (`found_answer`).
 //!   `law_core_audited` joins two commands: what `core` writes of a sound tree's frames is read as these frames, and
 //!   `audit` answers it with the text of that tree.
 #![tactic(auto)]

@@ -1,5 +1,6 @@
 //! The laws of whole guests, in the model and for machines: docs/GUARANTEES.md, "Whole guests". They compute nothing:
-//! what each says is its contract.
+//! what each says is its contract. And those of what partitions outside depend on in a partition of whose words they
+//! read nothing but what is seen.
 #![tactic(auto)]
 
 mod outside;

@@ -1,4 +1,5 @@
-//! The laws of what partitions outside depend on. The functions compute nothing: each is a law, which its contract says.
+//! What partitions outside depend on in a partition of whose words they read nothing but what is seen. The functions
+//! compute nothing: each is a law, which its contract says.
 ghost use Rattle.pip_guests.specs.Entries.{ClassesAreSights, EntriesHaveClasses};
 ghost use Rattle.pip_guests.specs.Exits.{ConfinedAlike, ConfinedStaysOrExits, FewPagesCreateNone, SoundConfines};
 ghost use Rattle.pip_guests.specs.Exits.{FetchFaultsAreTraps, LoadFaultsAreTraps, MasksAreUnseen, RefusedIsUnseen};

@@ -11,6 +11,12 @@
 //! sink holds nothing, the source `is_open`, and the source `allows` it by what both tell (`Streams`). Such code works
 //! for every source, so it knows no more of `allows` than its own contract says: `MayRead` (specs/Pacing) allows
 //! reading wherever such bytes were read, and nothing was written and no call failed since.
+//!
+//! A [`Transducer`] neither reads nor writes: it is fed bytes and asked for text, and [`drive`] does the rest. It says
+//! by its state what is due of the bytes that follow (`DueOf`, specs/Due). A step of it wants more bytes, has taken
+//! some and gives the text that is due for them, or ends (`Steps`). What is due before such a step follows from what is
+//! due after it (`LeadsAfter`). The driver alone reads, writes, flushes and counts faults: `Ends` says how it ended and
+//! how far it got, whatever the transducer. No piece of a text, such as a line, goes out by more than one `write_all`.
 #![tactic(auto)]
 
 mod calls;

@@ -7,7 +7,7 @@
 //! - `slots` has pip_children read an image and build the children, and runs them in the time slots of a round.
 //!   `law_slots_apart` says that two inputs that agree on a child have the same bytes in its slots.
 //! - `every`, `against` and `apart` are those of pip_search_commands.
-//! - `part` and `merge` are those of pip_certificate_commands. `law_certified_runs` joins them to runs: the labels of
+//! - `part` and `merge` are those of pip_certificates. `law_certified_runs` joins them to runs: the labels of
 //!   parts that were merged to a whole are all lines that a run can write.
 #![tactic(auto)]
 

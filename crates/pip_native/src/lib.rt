@@ -6,6 +6,12 @@
 //! processor, asks the callback once and makes at most one call. Its answer, the monitor afterwards, and the world that
 //! the port then represents are three functions of the world and of the monitor before (`decision_in`, `monitor_after`,
 //! `visit_acts`). No call takes memory.
+//!
+//! A native run (docs/MODEL.md, "A native run") builds children of the root and has a monitor run them. Over any port
+//! [`set_handlers`] and [`build_children`] lead to the world with all children (`with_handlers`, `with_children` of
+//! specs/Watching), the latter if the root has the pages (`HasRoomForChildren`). [`watch_once`] is the rest of a step
+//! once its lines are raised (`watch_step`): its caller says whether the root runs, since a `Port` can't be asked.
+//! [`write_children`] and `watch_once` write the lines.
 #![tactic(auto)]
 
 mod children;

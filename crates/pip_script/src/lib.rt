@@ -6,6 +6,13 @@
 //! gives what the model answers (`RepliesTo`). One macro (`by_form`) serves it and `read_line`, so that the value of a
 //! line need not be put together in memory. The text of an outcome is, byte for byte, the model's, and the generator's
 //! draws are the model's.
+//!
+//! An [`Input`] is the bytes of a source up to a limit, and their lines. What is held and what the source has left are
+//! together the bytes that were not taken; reading ahead moves bytes from the source to what is held and changes
+//! nothing else. `line_ahead` says what is at the head of what is held, or that more has to be read. `read_line` reads
+//! until a line is there, and answers how it ends; `head` lends its bytes, `take` takes them. At most 2^24 bytes are
+//! ever taken, or the number given to `with_room`; one more byte shows that the limit was passed. [`read_whole`] reads
+//! a source into one vector. All reading is through a `Joint`.
 #![tactic(auto)]
 
 mod answers;

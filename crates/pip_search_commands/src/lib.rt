@@ -1,6 +1,6 @@
 //! The commands that search what can happen to an image, over any source and any sink.
 //!
-//! - `every`: `every/searching` has pip_every search what can happen to an image's frames, and pip_ways find the ways.
+//! - `every`: `every/searching` has pip_every search what can happen to an image's frames, and find the ways.
 //!   Its answer is stated without keys and visits (`IsSearchedAgainst`).
 //! - `against` is `every` with a menu: `against/menu` reads one after the image, line by line (`IsAtLine`), and
 //!   `against/menu_line` says what a line says (`said_of`), by the grammar of scripts. `every` is the search with none.

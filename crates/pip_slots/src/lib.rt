@@ -2,7 +2,7 @@
 //!
 //! specs/Slots says what a plan of slots does (`slot_run`), and what of it happens in the slots of one child
 //! (`acts_of_child`). [`law_slots`] says that this is a matter of the child alone, in any two worlds that have it in
-//! common (`SlotsSeparate`), and so for images whose children are built as pip_native_run builds them (specs/Images).
+//! common (`SlotsSeparate`), and so for images whose children are built as pip_native builds them (specs/Images).
 //! [`law_without_slots`] says that it isn't so in a native run. [`run_slots`] and [`run_rounds`] run a plan on a
 //! machine, and what they do and write is `slot_run`; [`law_slots_of_machines`] is the law of two machines that run
 //! one.

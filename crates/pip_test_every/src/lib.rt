@@ -1,7 +1,7 @@
-//! Tests of pip_every and pip_journal: searches of roots whose states are known beforehand, changes of frames, and
-//! roots that read a word that is left out. And the laws of whole guests, on machines: machines that boot here, and
-//! take events, meet the premises of each form for machines; a lemma of proofs/ meets those of the law on searches with
-//! a menu. No other crate depends on it.
+//! Tests of pip_search, on systems all of whose states are known beforehand, and of pip_every: searches of roots of
+//! which that is so, changes of frames, and roots that read a word that is left out. And the laws of whole guests, on
+//! machines: machines that boot here, and take events, meet the premises of each form for machines; a lemma of proofs/
+//! meets those of the law on searches with a menu. No other crate depends on it.
 #![tactic(auto)]
 
 mod asks;

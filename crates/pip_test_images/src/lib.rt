@@ -1,4 +1,4 @@
-//! Tests of the commands on images and assembly texts, and of loads.
+//! Tests of the commands on scripts, images and assembly texts, of loads, and of the words of the command line.
 #![tactic(auto)]
 
 #[cfg(test)]

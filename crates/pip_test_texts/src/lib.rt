@@ -1,5 +1,5 @@
-//! Tests of the public calls of pip_io, pip_script, pip_isa, pip_image, pip_asm_line, pip_dis, pip_asm, pip_dump and
-//! pip_soak.
+//! Tests of the public calls of pip_io, pip_script, pip_isa, pip_image, pip_asm, pip_dump and pip_soak, and of those
+//! of pip_audit that read a text.
 #![tactic(auto)]
 
 #[cfg(test)]
