@@ -15,6 +15,14 @@ use pip_io::{Failed, Sink};
 use pip_model::{Effect, Port, Register};
 use std::sync::ledger::Ledger;
 
+// Where an instruction is carried out: on which processor, at which step, and where the next instruction is.
+#[derive(Clone, Copy)]
+struct At {
+    cpu: u32,
+    t: u64,
+    next: u32,
+}
+
 /// Carries out an effect on a processor. The address of its next instruction is `next`. Fails only if a write failed;
 /// all was done then up to the line that was not written whole.
 pub(crate) fn carry<W, P: Port, K: Sink, L: Ledger>(
@@ -36,6 +44,7 @@ pub(crate) fn carry<W, P: Port, K: Sink, L: Ledger>(
     ensures work { TakesNoMore (P.stands port.old) (λ w. effect_acts w t cpu (ctx_on w cpu) effect.now)
         steps.old steps.new }
 {
+    let at = At { cpu, t, next };
     match effect {
         Effect::Sets { register, word } => {
             port.set_register(cpu, *register, *word, next);
@@ -49,171 +58,155 @@ pub(crate) fn carry<W, P: Port, K: Sink, L: Ledger>(
             port.set_register(cpu, *register, next, *pc);
             Ok(())
         }
-        Effect::Loads { register, va, size } => load::<W, P, K, L>(
-            port, cpu, t, next, *register, *va, *size, sink, steps,
-        ),
-        Effect::Stores { va, word, size } => {
-            store::<W, P, K, L>(port, cpu, t, next, *va, *size, *word, sink, steps)
+        Effect::Loads { register, va, size } => {
+            load::<W, P, K, L>(port, at, *register, *va, *size, sink, steps)
         }
-        Effect::Traps { vector, a, b } => trap(port, cpu, t, *vector, *a, *b, sink, steps),
-        Effect::Interrupts { vector } => interrupt(port, cpu, t, next, *vector, sink, steps),
-        Effect::Calls { number } => call(port, cpu, t, next, *number, sink, steps),
-        Effect::Shows(word) => show(port, cpu, t, next, *word, sink),
+        Effect::Stores { va, word, size } => {
+            store::<W, P, K, L>(port, at, *va, *size, *word, sink, steps)
+        }
+        Effect::Traps { vector, a, b } => trap(port, at, *vector, *a, *b, sink, steps),
+        Effect::Interrupts { vector } => interrupt(port, at, *vector, sink, steps),
+        Effect::Calls { number } => call(port, at, *number, sink, steps),
+        Effect::Shows(word) => show(port, at, *word, sink),
     }
 }
 
 // Only where a word was read do the register and pc change.
 fn load<W, P: Port, K: Sink, L: Ledger>(
     port: &mut P,
-    cpu: u32,
-    t: u64,
-    next: u32,
+    at: At,
     register: Register,
     va: u32,
     size: Size,
     sink: &mut K,
     steps: &mut Steps<L>,
 ) -> Result<(), Failed>
-    requires cpu { cpu < P.count port.old }
-    requires next { IsNext (P.stands port.old) cpu next }
+    requires cpu { at.cpu < P.count port.old }
+    requires next { IsNext (P.stands port.old) at.cpu at.next }
     ensures acts { Acts result (P.stands port.old) (P.stands port.new) (K.history sink.old) (K.history sink.new)
-        (λ w. effect_acts w t cpu (ctx_on w cpu) (F.Loads register va size)) }
+        (λ w. effect_acts w at.t at.cpu (ctx_on w at.cpu) (F.Loads register va size)) }
     ensures cause { HasCause (K.history sink.old).faults (K.history sink.new).faults result }
     ensures count { P.count port.new ≡ P.count port.old }
-    ensures work { TakesNoMore (P.stands port.old) (λ w. effect_acts w t cpu (ctx_on w cpu) (F.Loads register va size))
-        steps.old steps.new }
+    ensures work { TakesNoMore (P.stands port.old)
+        (λ w. effect_acts w at.t at.cpu (ctx_on w at.cpu) (F.Loads register va size)) steps.old steps.new }
 {
-    let outcome = port.load(cpu, va, size, steps);
+    let outcome = port.load(at.cpu, va, size, steps);
     if let Outcome::Word(word) = outcome {
-        port.set_register(cpu, register, word, next);
+        port.set_register(at.cpu, register, word, at.next);
         return Ok(());
     }
-    write_moved(sink, t, cpu, outcome)
+    write_moved(sink, at.t, at.cpu, outcome)
 }
 
 // Only where it is done does pc change.
 fn store<W, P: Port, K: Sink, L: Ledger>(
     port: &mut P,
-    cpu: u32,
-    t: u64,
-    next: u32,
+    at: At,
     va: u32,
     size: Size,
     word: u32,
     sink: &mut K,
     steps: &mut Steps<L>,
 ) -> Result<(), Failed>
-    requires cpu { cpu < P.count port.old }
-    requires next { IsNext (P.stands port.old) cpu next }
+    requires cpu { at.cpu < P.count port.old }
+    requires next { IsNext (P.stands port.old) at.cpu at.next }
     requires word { IsEffect (F.Stores va word size) }
     ensures acts { Acts result (P.stands port.old) (P.stands port.new) (K.history sink.old) (K.history sink.new)
-        (λ w. effect_acts w t cpu (ctx_on w cpu) (F.Stores va word size)) }
+        (λ w. effect_acts w at.t at.cpu (ctx_on w at.cpu) (F.Stores va word size)) }
     ensures cause { HasCause (K.history sink.old).faults (K.history sink.new).faults result }
     ensures count { P.count port.new ≡ P.count port.old }
-    ensures work { TakesNoMore (P.stands port.old) (λ w. effect_acts w t cpu (ctx_on w cpu) (F.Stores va word size))
-        steps.old steps.new }
+    ensures work { TakesNoMore (P.stands port.old)
+        (λ w. effect_acts w at.t at.cpu (ctx_on w at.cpu) (F.Stores va word size)) steps.old steps.new }
 {
-    let outcome = port.store(cpu, va, size, word, steps);
+    let outcome = port.store(at.cpu, va, size, word, steps);
     if let Outcome::Done = outcome {
-        port.set_pc(cpu, next);
+        port.set_pc(at.cpu, at.next);
         return Ok(());
     }
-    write_moved(sink, t, cpu, outcome)
+    write_moved(sink, at.t, at.cpu, outcome)
 }
 
 // pc stays at the instruction.
 fn trap<P: Port, K: Sink, L: Ledger>(
     port: &mut P,
-    cpu: u32,
-    t: u64,
+    at: At,
     vector: u32,
     a: u32,
     b: u32,
     sink: &mut K,
     steps: &mut Steps<L>,
 ) -> Result<(), Failed>
-    requires cpu { cpu < P.count port.old }
+    requires cpu { at.cpu < P.count port.old }
     requires vector { vector < 256 }
     ensures acts { Acts result (P.stands port.old) (P.stands port.new) (K.history sink.old) (K.history sink.new)
-        (λ w. effect_acts w t cpu (ctx_on w cpu) (F.Traps vector a b)) }
+        (λ w. effect_acts w at.t at.cpu (ctx_on w at.cpu) (F.Traps vector a b)) }
     ensures cause { HasCause (K.history sink.old).faults (K.history sink.new).faults result }
     ensures count { P.count port.new ≡ P.count port.old }
-    ensures work { TakesNoMore (P.stands port.old) (λ w. effect_acts w t cpu (ctx_on w cpu) (F.Traps vector a b))
-        steps.old steps.new }
+    ensures work { TakesNoMore (P.stands port.old)
+        (λ w. effect_acts w at.t at.cpu (ctx_on w at.cpu) (F.Traps vector a b)) steps.old steps.new }
 {
-    let outcome = port.trap(cpu, vector, a, b, steps);
-    write_moved(sink, t, cpu, outcome)
+    let outcome = port.trap(at.cpu, vector, a, b, steps);
+    write_moved(sink, at.t, at.cpu, outcome)
 }
 
 // pc goes on before the trap.
 fn interrupt<P: Port, K: Sink, L: Ledger>(
     port: &mut P,
-    cpu: u32,
-    t: u64,
-    next: u32,
+    at: At,
     vector: u32,
     sink: &mut K,
     steps: &mut Steps<L>,
 ) -> Result<(), Failed>
-    requires cpu { cpu < P.count port.old }
-    requires next { IsNext (P.stands port.old) cpu next }
+    requires cpu { at.cpu < P.count port.old }
+    requires next { IsNext (P.stands port.old) at.cpu at.next }
     requires vector { vector < 256 }
     ensures acts { Acts result (P.stands port.old) (P.stands port.new) (K.history sink.old) (K.history sink.new)
-        (λ w. effect_acts w t cpu (ctx_on w cpu) (F.Interrupts vector)) }
+        (λ w. effect_acts w at.t at.cpu (ctx_on w at.cpu) (F.Interrupts vector)) }
     ensures cause { HasCause (K.history sink.old).faults (K.history sink.new).faults result }
     ensures count { P.count port.new ≡ P.count port.old }
-    ensures work { TakesNoMore (P.stands port.old) (λ w. effect_acts w t cpu (ctx_on w cpu) (F.Interrupts vector))
-        steps.old steps.new }
+    ensures work { TakesNoMore (P.stands port.old)
+        (λ w. effect_acts w at.t at.cpu (ctx_on w at.cpu) (F.Interrupts vector)) steps.old steps.new }
 {
-    port.set_pc(cpu, next);
-    let outcome = port.trap(cpu, vector, 0, 0, steps);
-    write_moved(sink, t, cpu, outcome)
+    port.set_pc(at.cpu, at.next);
+    let outcome = port.trap(at.cpu, vector, 0, 0, steps);
+    write_moved(sink, at.t, at.cpu, outcome)
 }
 
 // pc goes on before the call.
 fn call<P: Port, K: Sink, L: Ledger>(
     port: &mut P,
-    cpu: u32,
-    t: u64,
-    next: u32,
+    at: At,
     number: u32,
     sink: &mut K,
     steps: &mut Steps<L>,
 ) -> Result<(), Failed>
-    requires cpu { cpu < P.count port.old }
-    requires next { IsNext (P.stands port.old) cpu next }
+    requires cpu { at.cpu < P.count port.old }
+    requires next { IsNext (P.stands port.old) at.cpu at.next }
     ensures acts { Acts result (P.stands port.old) (P.stands port.new) (K.history sink.old) (K.history sink.new)
-        (λ w. effect_acts w t cpu (ctx_on w cpu) (F.Calls number)) }
+        (λ w. effect_acts w at.t at.cpu (ctx_on w at.cpu) (F.Calls number)) }
     ensures cause { HasCause (K.history sink.old).faults (K.history sink.new).faults result }
     ensures count { P.count port.new ≡ P.count port.old }
-    ensures work { TakesNoMore (P.stands port.old) (λ w. effect_acts w t cpu (ctx_on w cpu) (F.Calls number))
-        steps.old steps.new }
+    ensures work { TakesNoMore (P.stands port.old)
+        (λ w. effect_acts w at.t at.cpu (ctx_on w at.cpu) (F.Calls number)) steps.old steps.new }
 {
-    let args = arguments_of(port, cpu);
-    port.set_pc(cpu, next);
-    let outcome = port.call(cpu, number, &args, steps);
-    write_call(sink, t, cpu, number, outcome)
+    let args = arguments_of(port, at.cpu);
+    port.set_pc(at.cpu, at.next);
+    let outcome = port.call(at.cpu, number, &args, steps);
+    write_call(sink, at.t, at.cpu, number, outcome)
 }
 
 // pc goes on after the line.
-fn show<P: Port, K: Sink>(
-    port: &mut P,
-    cpu: u32,
-    t: u64,
-    next: u32,
-    word: u32,
-    sink: &mut K,
-) -> Result<(), Failed>
-    requires cpu { cpu < P.count port.old }
-    requires next { IsNext (P.stands port.old) cpu next }
+fn show<P: Port, K: Sink>(port: &mut P, at: At, word: u32, sink: &mut K) -> Result<(), Failed>
+    requires cpu { at.cpu < P.count port.old }
+    requires next { IsNext (P.stands port.old) at.cpu at.next }
     ensures acts { Acts result (P.stands port.old) (P.stands port.new) (K.history sink.old) (K.history sink.new)
-        (λ w. effect_acts w t cpu (ctx_on w cpu) (F.Shows word)) }
+        (λ w. effect_acts w at.t at.cpu (ctx_on w at.cpu) (F.Shows word)) }
     ensures cause { HasCause (K.history sink.old).faults (K.history sink.new).faults result }
     ensures count { P.count port.new ≡ P.count port.old }
 {
-    match write_out(sink, t, cpu, word) {
+    match write_out(sink, at.t, at.cpu, word) {
         Ok(()) => {
-            port.set_pc(cpu, next);
+            port.set_pc(at.cpu, at.next);
             Ok(())
         }
         Err(failed) => Err(failed),

@@ -19,4 +19,4 @@ pub use line::Line;
 pub use pip_model::due;
 pub use raise::raise_due;
 pub use run::run_lines;
-pub use tracing::{trace, write_end, write_image};
+pub use tracing::{ImageSize, trace, write_end, write_image};

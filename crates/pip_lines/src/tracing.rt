@@ -18,14 +18,20 @@ use pip_model::Port;
 use pip_script::push_decimal;
 use std::sync::ledger::Ledger;
 
-/// The whole trace of an image of that many frames, with that many pages, whose plans are those of `lines`: its first
-/// line, the steps as `run_lines` makes them, the last line (docs/FORMATS.md, "Trace lines"). Fails only if a write
-/// failed; all was done then up to the line that was not written whole.
+/// How large an image is: its frames and its pages.
+#[derive(Clone, Copy)]
+pub struct ImageSize {
+    pub frames: u32,
+    pub pages: u32,
+}
+
+/// The whole trace of an image of that size whose plans are those of `lines`: its first line, the steps as `run_lines`
+/// makes them, the last line (docs/FORMATS.md, "Trace lines"). Fails only if a write failed; all was done then up to the
+/// line that was not written whole.
 pub fn trace<P: Port, K: Sink, F: Callback, L: Ledger>(
     port: &mut P,
     lines: &[Line<F>],
-    frames: u32,
-    pages: u32,
+    image: ImageSize,
     count: u32,
     seed: u32,
     sink: &mut K,
@@ -34,12 +40,19 @@ pub fn trace<P: Port, K: Sink, F: Callback, L: Ledger>(
     requires below { AllByRecursion (λ p. p.line < 16) lines.now }
     requires seed { seed ≢ 0 }
     ensures acts { Acts result (P.stands port.old) (P.stands port.new) (K.history sink.old) (K.history sink.new)
-        (λ w. trace_acts w (trace_image_line frames (P.count port.old) (length lines.now) pages) lines.now seed
+        (λ w. trace_acts w (trace_image_line image.frames (P.count port.old) (length lines.now) image.pages) lines.now
+        seed
         (P.count port.old) count) }
     ensures cause { HasCause (K.history sink.old).faults (K.history sink.new).faults result }
     ensures count { P.count port.new ≡ P.count port.old }
 {
-    write_image(frames, port.cpus(), lines.len() as u64, pages, sink)?;
+    write_image(
+        image.frames,
+        port.cpus(),
+        lines.len() as u64,
+        image.pages,
+        sink,
+    )?;
     run_lines(port, lines, count, seed, sink, steps)?;
     write_end(sink, count)
 }

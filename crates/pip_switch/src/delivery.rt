@@ -71,37 +71,44 @@ pub(crate) fn find_taker<M: Frames, L: Ledger>(
     never!()
 }
 
-/// Delivers a vector that the partition which runs on a processor raised, with two words for whoever takes it.
+/// A vector that was raised, with two words for whoever takes it.
+#[derive(Clone, Copy)]
+pub(crate) struct Raised {
+    pub vector: u32,
+    pub a: u32,
+    pub b: u32,
+}
+
+/// Delivers what the partition which runs on a processor raised.
 pub(crate) fn deliver<M: Frames, L: Ledger>(
     mem: &mut M,
     cpus: &mut Processors,
     cpu: u32,
     part: Frame,
-    vector: u32,
-    a: u32,
-    b: u32,
+    raised: Raised,
     steps: &mut Steps<L>,
 ) -> Outcome
     requires world { HasWorld (M.memory mem.old) cpus.old.items }
     requires cpu { cpu < length cpus.old.items }
     requires runs { part_on cpus.old.items cpu ≡ Some part }
-    requires vector { vector < 256 }
-    ensures event { LeadsFrom (M.memory mem.old) cpus.old.items cpu (λ w r. deliver w cpu r vector a b) result
-        (M.memory mem.new) cpus.new.items }
+    requires vector { raised.vector < 256 }
+    ensures event { LeadsFrom (M.memory mem.old) cpus.old.items cpu
+        (λ w r. deliver w cpu r raised.vector raised.a raised.b)
+        result (M.memory mem.new) cpus.new.items }
     ensures count { length cpus.new.items ≡ length cpus.old.items }
     ensures chain { InEach (M.memory mem.old) part (λ t x. steps.new ≤ steps.old + 8 * length (chain t part) + 76) }
 {
-    let taker = find_taker(mem, cpus.as_slice(), part, vector, steps);
+    let taker = find_taker(mem, cpus.as_slice(), part, raised.vector, steps);
     save(mem, cpus, cpu, steps);
     match taker {
         None => {
             set_running(cpus, cpu, None);
-            parked(part, vector)
+            parked(part, raised.vector)
         }
         Some(y) => {
-            let runs = entering(y.to, &y.handler, vector, a, b, y.born);
+            let runs = entering(y.to, &y.handler, raised.vector, raised.a, raised.b, y.born);
             set_running(cpus, cpu, Some(runs));
-            switched(part, y.to, vector)
+            switched(part, y.to, raised.vector)
         }
     }
 }

@@ -12,7 +12,7 @@ ghost use Rattle.pip_switch.specs.Occupied.{part_on};
 ghost use Rattle.pip_switch.specs.Standing.{HasCachedWorld, HasWorld, Leads, LeadsFrom, LeadsWith, StandsFor};
 
 use crate::caches::Caches;
-use crate::delivery::deliver;
+use crate::delivery::{Raised, deliver};
 use crate::processors::{Processors, pc_on, runner};
 use pip_base::{Access, Frame, Outcome, Size, Steps};
 use pip_frames::Frames;
@@ -70,28 +70,39 @@ pub(crate) fn by_parts(outcome: Outcome) -> Outcome
     }
 }
 
-// Delivers a fault of an access at an address by the partition that runs on a processor.
+// An access at an address that failed.
+#[derive(Clone, Copy)]
+struct Failed {
+    va: u32,
+    access: Access,
+    fault: AccessFault,
+}
+
+// Delivers the fault of an access by the partition that runs on a processor.
 #[inline(always)]
 fn deliver_fault<M: Frames, L: Ledger>(
     mem: &mut M,
     cpus: &mut Processors,
     cpu: u32,
     part: Frame,
-    va: u32,
-    access: Access,
-    fault: AccessFault,
+    failed: Failed,
     steps: &mut Steps<L>,
 ) -> Outcome
     requires world { HasWorld (M.memory mem.old) cpus.old.items }
     requires cpu { cpu < length cpus.old.items }
     requires runs { part_on cpus.old.items cpu ≡ Some part }
     ensures event { LeadsFrom (M.memory mem.old) cpus.old.items cpu
-        (λ w r. deliver_fault w cpu r va access (model_fault fault)) result (M.memory mem.new) cpus.new.items }
+        (λ w r. deliver_fault w cpu r failed.va failed.access (model_fault failed.fault)) result
+        (M.memory mem.new) cpus.new.items }
     ensures count { length cpus.new.items ≡ length cpus.old.items }
     ensures chain { InEach (M.memory mem.old) part (λ t x. steps.new ≤ steps.old + 8 * length (chain t part) + 76) }
 {
-    let told = 16 * number_of(access) + kind_of(fault);
-    by_parts(deliver(mem, cpus, cpu, part, vector_of(fault), va, told, steps))
+    let raised = Raised {
+        vector: vector_of(failed.fault),
+        a: failed.va,
+        b: 16 * number_of(failed.access) + kind_of(failed.fault),
+    };
+    by_parts(deliver(mem, cpus, cpu, part, raised, steps))
 }
 
 /// What runs on a processor reads a word or a byte.
@@ -127,39 +138,62 @@ pub(crate) fn load<M: Frames, L: Ledger>(
         steps,
     ) {
         Ok(word) => Outcome::Word(word),
-        Err(fault) => deliver_fault(mem, cpus, cpu, part, va, Access::Load, fault, steps),
+        Err(fault) => {
+            let failed = Failed {
+                va,
+                access: Access::Load,
+                fault,
+            };
+            deliver_fault(mem, cpus, cpu, part, failed, steps)
+        }
     }
 }
 
-/// It writes a word, or a byte below 256.
+/// What is written at an address: a word, or a byte below 256.
+#[derive(Clone, Copy)]
+pub(crate) struct Written {
+    pub va: u32,
+    pub size: Size,
+    pub word: u32,
+}
+
+/// It writes a word or a byte.
 #[inline(always)]
 pub(crate) fn store<M: Frames, L: Ledger>(
     mem: &mut M,
     cpus: &mut Processors,
     caches: &mut Caches,
     cpu: u32,
-    va: u32,
-    size: Size,
-    word: u32,
+    written: Written,
     steps: &mut Steps<L>,
 ) -> Outcome
     requires world { HasCachedWorld (M.memory mem.old) cpus.old.items caches.old.items }
     requires cpu { cpu < length cpus.old.items }
-    requires fits { word < below_of size }
-    ensures event { LeadsWith (M.memory mem.old) cpus.old.items caches.old.items (E.Store cpu va size word) result
-        (M.memory mem.new) cpus.new.items caches.new.items }
+    requires fits { written.word < below_of written.size }
+    ensures event { LeadsWith (M.memory mem.old) cpus.old.items caches.old.items
+        (E.Store cpu written.va written.size written.word)
+        result (M.memory mem.new) cpus.new.items caches.new.items }
     ensures count { length cpus.new.items ≡ length cpus.old.items }
     ensures each { length caches.new.items ≡ length caches.old.items }
-    ensures hit { HitReadsOne caches.old.items cpus.old.items cpu (λ r. va) result steps.old steps.new }
-    ensures work { TakesAtMost (StandsFor (M.memory mem.old) cpus.old.items) (E.Store cpu va size word)
+    ensures hit { HitReadsOne caches.old.items cpus.old.items cpu (λ r. written.va) result steps.old steps.new }
+    ensures work { TakesAtMost (StandsFor (M.memory mem.old) cpus.old.items)
+        (E.Store cpu written.va written.size written.word)
         steps.old steps.new }
 {
     let Some(part) = runner(cpus, cpu) else {
         return Outcome::Idle;
     };
+    let Written { va, size, word } = written;
     match pip_mmu::store_through(mem, &mut caches[cpu as usize], part, va, size, word, steps) {
         Ok(()) => Outcome::Done,
-        Err(fault) => deliver_fault(mem, cpus, cpu, part, va, Access::Store, fault, steps),
+        Err(fault) => {
+            let failed = Failed {
+                va,
+                access: Access::Store,
+                fault,
+            };
+            deliver_fault(mem, cpus, cpu, part, failed, steps)
+        }
     }
 }
 
@@ -187,7 +221,14 @@ pub(crate) fn fetch<M: Frames, L: Ledger>(
     let pc = pc_on(cpus, cpu);
     match pip_mmu::fetch_through(mem, &mut caches[cpu as usize], part, pc, steps) {
         Ok(word) => Outcome::Word(word),
-        Err(fault) => deliver_fault(mem, cpus, cpu, part, pc, Access::Fetch, fault, steps),
+        Err(fault) => {
+            let failed = Failed {
+                va: pc,
+                access: Access::Fetch,
+                fault,
+            };
+            deliver_fault(mem, cpus, cpu, part, failed, steps)
+        }
     }
 }
 
@@ -213,5 +254,5 @@ pub(crate) fn trap<M: Frames, L: Ledger>(
     let Some(part) = runner(cpus, cpu) else {
         return Outcome::Idle;
     };
-    deliver(mem, cpus, cpu, part, vector, a, b, steps)
+    deliver(mem, cpus, cpu, part, Raised { vector, a, b }, steps)
 }

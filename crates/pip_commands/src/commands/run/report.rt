@@ -17,7 +17,7 @@ use pip_command_contracts::pass;
 use pip_dump::{frames_text, tree_text};
 use pip_frames::Frames;
 use pip_io::{Failed, Sink};
-use pip_lines::{Callback, trace, write_end};
+use pip_lines::{Callback, ImageSize, trace, write_end};
 use std::sync::ledger::Ledger;
 
 /// What one of the three commands shows.
@@ -75,16 +75,13 @@ impl Report {
         let machine = &mut loaded.machine;
         let lines = loaded.lines.as_slice();
         match self {
-            Report::Trace => trace(
-                machine,
-                lines,
-                loaded.frames,
-                loaded.pages,
-                count,
-                seed,
-                sink,
-                steps,
-            ),
+            Report::Trace => {
+                let size = ImageSize {
+                    frames: loaded.frames,
+                    pages: loaded.pages,
+                };
+                trace(machine, lines, size, count, seed, sink, steps)
+            }
             Report::Tree => {
                 pass(machine, lines, count, seed, steps);
                 write_tree(machine.mem(), count, sink, steps)

@@ -7,5 +7,6 @@ returns-clause-acts g c = λ w h. interrupted _ _ _ w _ _ _ _ _ _ (c.requires.ne
     c.trap-outcome.ensures.event c.write_moved.ensures.wrote
 
 pub returns-clause-work : goal.returns-clause-work
-returns-clause-work g c = interrupt_takes _ c.args.t c.args.cpu _ _ _ c.args.next c.set_pc.ensures.event c.requires.next
+returns-clause-work g c = interrupt_takes _ c.args.at.t c.args.at.cpu _ _ _ c.args.at.next c.set_pc.ensures.event
+    c.requires.next
     c.args.vector c.trap-outcome.ensures.work

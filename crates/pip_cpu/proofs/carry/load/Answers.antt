@@ -9,5 +9,5 @@ returns g c = record {
       c.write_moved.ensures.wrote;
   cause = search rules;
   count = search rules;
-  work = load_takes _ c.args.t c.args.cpu _ _ c.args.register c.args.va c.args.size c.load-outcome.ensures.work;
+  work = load_takes _ c.args.at.t c.args.at.cpu _ _ c.args.register c.args.va c.args.size c.load-outcome.ensures.work;
 }

@@ -9,5 +9,5 @@ returns g c = record {
       c.write_moved.ensures.wrote;
   cause = search rules;
   count = search rules;
-  work = store_takes _ c.args.t c.args.cpu _ _ c.args.va c.args.word c.args.size c.store-outcome.ensures.work;
+  work = store_takes _ c.args.at.t c.args.at.cpu _ _ c.args.va c.args.word c.args.size c.store-outcome.ensures.work;
 }
