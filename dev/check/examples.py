@@ -6,7 +6,7 @@ from collections.abc import Iterator
 
 from authors import asmx, every_program as guests
 from common import calling
-from common.machine import every, script
+from common.machine import runs, script
 from debugger import searching, sources
 from reference import commands as reference
 from .running import REPOSITORY, Differs, contents, expect, paths, run, text_of, told_path
@@ -108,7 +108,7 @@ def every_program(program: str) -> None:
     for path, name, data, _ in searched(program, "any"):
         told, due = contents(path).decode().split("\n", 1)
         states, *after = told.split()[1:]
-        begin = every.After(*map(int, after[1:])) if after else every.AT_FIRST
+        begin = runs.After(*map(int, after[1:])) if after else runs.AT_FIRST
         asked = searching.Asked(data, b"", int(states), after=begin)
         found = guests.answer(program, asked, sources.read(data, os.path.join(REPOSITORY, name)))
         expect(f"{name}, '{told}'", (guests.text_of(guests.told(found)), 0), (due.encode(), 0))

@@ -6,8 +6,9 @@ import random
 import re
 from collections.abc import Iterator
 
-from common.machine import against, image as images
-from common.machine.every import AT_FIRST, After, Moment, begun
+from common.machine import against, image as images, runs
+from common.machine.against import Moment
+from common.machine.runs import AT_FIRST, After
 
 LINE = re.compile(r"(comes .*): (?:within (.*)|no((?: [^ :]+(?::d\d+)?(?:x\d+)?)*) :((?: \S+)+))")
 COUNT = re.compile(r"(\d+) of (\w+)")
@@ -35,7 +36,7 @@ class Judge:
     """What can happen to an image, choice by choice."""
 
     def __init__(self, image: images.Image, first: int, after: After, menu: against.Menu) -> None:
-        self.moments = against.MenuMoments(image, first, begun(image, after), menu.deeds)
+        self.moments = against.Moments(image, first, runs.steps(image, *after), menu.deeds)
         self.names = {self.moments.choice_text(choice): choice for choice in reversed(self.moments.choices)}
 
     def is_right(self, line: str) -> bool:

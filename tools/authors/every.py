@@ -22,10 +22,10 @@ from typing import NamedTuple
 
 from common import calling, meanings
 from common.calling import Failed
-from common.machine import against, every as searches, image as images, script
-from common.machine.every import AT_FIRST, After
+from common.machine import against, image as images, runs, script
 from common.machine.image import Image
 from common.machine.model import World
+from common.machine.runs import AT_FIRST, After
 from debugger import building, client, rules, searching, sources
 from debugger.searching import AGAIN, END, Asked, Line, Search
 from . import asmx, every_program, trace, ways, why
@@ -121,7 +121,7 @@ def way_of(given: Given, line: Line) -> tuple[Image, Way]:
 def replayed(given: Given, line: Line, is_shown: bool = False) -> tuple[World, list[str]]:
     """The world after a way, and the lines of its last choice; the choices are printed if they are to be shown."""
     image, way = way_of(given, line)
-    world, lines = searches.begun(image, given.asked.after), list[str]()
+    world, lines = runs.steps(image, *given.asked.after), list[str]()
     for made in ways.made(image, way, given.menu, given.asked.after):
         world, lines = made.world, made.lines
         if is_shown:

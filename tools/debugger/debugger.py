@@ -15,7 +15,7 @@ from common.calling import Failed
 from common.draw import texts
 from common.draw.texts import Partition
 from common.machine import image as images, instructions, script
-from common.machine.every import AT_FIRST, After
+from common.machine.runs import AT_FIRST, After
 from . import searching, sources
 from .client import EVERY, At, Coming, Refused, States, Stopped, Turn
 from .sources import Named, Word

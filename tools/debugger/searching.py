@@ -23,7 +23,7 @@ from typing import IO, NamedTuple
 from common import calling, meanings
 from common.calling import Failed
 from common.machine import image as images, runs
-from common.machine.every import AT_FIRST, After
+from common.machine.runs import AT_FIRST, After
 from .building import SEARCHES
 from .progress import Progress
 from .rules import Rule
