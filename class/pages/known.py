@@ -25,8 +25,8 @@ def facts() -> dict[str, Any]:
     """What the page has of the documents."""
     further: dict[bytes, tuple[int | None, ...]] = {b"boot": (script.WORD, script.WORD), b"call": ()}
     forms = {name.decode(): list(form) for name, form in {**script.FORMS, **further}.items()}
-    return {"statuses": list(meanings.statuses().values()), "calls": page.told_calls(), "vectors": meanings.vectors(),
-            "forms": forms, "causes": meanings.causes(), "assembly": of_assembly(), "ends": ends(),
+    return {"statuses": list(meanings.STATUSES.values()), "calls": page.told_calls(), "vectors": meanings.VECTORS,
+            "forms": forms, "causes": meanings.CAUSES, "assembly": of_assembly(), "ends": ends(),
             "most": MOST_EDITED, "texts": [*examples(), *exercises()]}
 
 
@@ -44,7 +44,7 @@ def of_assembly() -> dict[str, Any]:
 
 def ends() -> dict[str, str]:
     """Of each status of the program what it means, in short."""
-    found = {status: re.sub(r" \([^)]*\)", "", re.split("[:;]", when)[0]) for status, when in meanings.ends().items()}
+    found = {status: re.sub(r" \([^)]*\)", "", re.split("[:;]", when)[0]) for status, when in meanings.ENDS.items()}
     return {**found, "99": "the module stopped"}
 
 

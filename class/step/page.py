@@ -68,13 +68,13 @@ def data(title: str, found: list[states.State]) -> dict[str, Any]:
     return {"title": title, "frames": found[0].frames, "partitions": partitions.values, "trees": trees.values,
             "grids": grids.values, "registers": registers.values, "steps": steps, "contents": frames.contents.values,
             "words": frames.found, "calls": told_calls(),
-            "statuses": [name for name, _ in meanings.statuses().values()]}
+            "statuses": [name for name, _ in meanings.STATUSES.values()]}
 
 
 def told_calls() -> dict[int, list[Any]]:
     """Of each call by its number its name, and its arguments as FORMATS.md has them."""
     made: dict[int, list[Any]] = {}
-    for number, (name, arguments) in meanings.calls().items():
+    for number, (name, arguments) in meanings.CALLS.items():
         parts = arguments.split(": ")[-1].split(", ")
         made[number] = [name, [] if parts == ["none"] else parts]
     return made

@@ -45,11 +45,11 @@ def found(text: str) -> str:
         made = of_page(text)
     except Differs:
         return ""
-    return next((part for part, rows in made.items() if rows != meanings.data().get(part)), "")
+    return next((part for part, rows in made.items() if rows != meanings.TOLD.get(part)), "")
 
 
 def rewrite() -> None:
-    write(json.dumps(of_page(text_of(PAGE)), indent=1, ensure_ascii=False) + "\n", meanings.DATA)
+    write(json.dumps(of_page(text_of(PAGE)), indent=1, ensure_ascii=False) + "\n", str(meanings.DATA))
 
 
 def of_page(text: str) -> dict[str, Any]:

@@ -383,7 +383,7 @@ def sentences(kind: Kind, judge: Judge, name: str, text: bytes) -> Iterator[list
 
 
 def told(name: str, place: int, lines: list[bytes], cause: Cause) -> list[str]:
-    row = meanings.causes()[cause.name]
+    row = meanings.CAUSES[cause.name]
     line = lines[place - 1].decode("utf-8", "replace") if place <= len(lines) else ""
     sentences = [f"{name}:{place}:{cause.column}: {cause.here}"]
     if line.isprintable() and line and cause.column <= 121:
