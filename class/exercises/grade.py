@@ -192,12 +192,8 @@ def csv_rows(table: Table) -> list[list[object]]:
                 if other != student]
         cells = (work.count if work else "" for work in works)
         rows.append([student, *cells, table.count(student), table.whole(student), "; ".join(like)])
-    return [[as_text(cell) for cell in row] for row in rows]
-
-
-def as_text(cell: object) -> object:
-    """A cell that no spreadsheet takes for a formula."""
-    return "'" * cell.startswith(FORMULA) + visible(cell) if isinstance(cell, str) else cell
+    return [["'" * cell.startswith(FORMULA) + visible(cell) if isinstance(cell, str) else cell for cell in row]
+            for row in rows]
 
 
 def visible(text: str) -> str:

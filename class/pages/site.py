@@ -117,8 +117,11 @@ class Site:
         self.assembled = {path: asmx.text_of(asmx.processed(str(TOP / path))[0]).decode()
                           for path, text in self.examples.items()
                           if path.endswith(".asmx") and re.search(r"(?m)^\.(frames|include) ", text)}
-        self.names = {path: page_of(path) for path in self.documents}
-        self.names.update((path, example_page(path)) for path in self.examples)
+        self.names = {path: path.replace("docs/", "").replace("/", "_").removesuffix("md") + "html"
+                      for path in self.documents}
+        self.names["README.md"] = "index.html"
+        self.names.update((path, "example_" + path[len("examples/"):].replace("/", "_") + ".html")
+                          for path in self.examples)
         self.exercises = {told["exercise"]: told for told in known.exercises()}
         self.used: dict[str, list[tuple[str, str]]] = {}       # where each example is shown: an address and a title
         self.elsewhere: set[str] = set()                       # linked files that aren't here
@@ -254,13 +257,11 @@ class Chapter:
         self.source = ""                           # the script or program that was shown last
 
     def page(self) -> Page:
-        made = rendering.rendered(self.document.text, self.block, self.led, self.after)
+        made = rendering.rendered(self.document.text, self.block, lambda link: self.site.led(self.path, link),
+                                  self.after)
         if self.path == GLOSSARY:
             made.body = TERM.sub(lambda found: self.term(made, found), made.body)
         return Page(self.site.names[self.path], made.title, made.body, short(self.path), made.headings, made.sections)
-
-    def led(self, link: str) -> str:
-        return self.site.led(self.path, link)
 
     def term(self, made: Rendered, found: re.Match[str]) -> str:
         """A row of the glossary, which the search finds by its term."""
@@ -326,14 +327,6 @@ def run(where: str, block: Block, runs: Runs, page: str | None = None) -> str:
 def element(told: dict[str, object], shown: str) -> str:
     data = html.escape(json.dumps(told, ensure_ascii=False))
     return f'<div class="run" data-run="{data}"><pre class="code" tabindex="0">{shown}</pre></div>\n'
-
-
-def page_of(path: str) -> str:
-    return "index.html" if path == "README.md" else path.replace("docs/", "").replace("/", "_")[:-3] + ".html"
-
-
-def example_page(path: str) -> str:
-    return "example_" + path[len("examples/"):].replace("/", "_") + ".html"
 
 
 def short(path: str) -> str:

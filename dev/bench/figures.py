@@ -74,10 +74,6 @@ class Figures:
         few, many = 1000 // events, 11000 // events
         return self.more(script(setup, lines, few), script(setup, lines, many)) // (many - few) // events
 
-    def once(self, setup: str, line: str) -> int:
-        """The instructions of one line after the others."""
-        return self.more(script(setup, "", 0), script(setup, line, 1))
-
     def deleted(self, case: str) -> int:
         """The instructions of the line that deletes."""
         before, with_it = deletions.scripts(case)
@@ -112,7 +108,8 @@ class Figures:
     def of_partitions(self) -> Iterator[Figure]:
         yield "`call 0 0` with five pages, an accepted createPartition of the root", \
             self.more(creations(100), creations(700)) // 600
-        yield "the same by a child of the root", self.once(FAMILY, deletions.call(0, *deletions.CHILD_PAGES[:5]))
+        creation = deletions.call(0, *deletions.CHILD_PAGES[:5])
+        yield "the same by a child of the root", self.more(script(FAMILY, "", 0), script(FAMILY, creation, 1))
         for case, name in DELETED.items():
             yield name, self.deleted(case)
 

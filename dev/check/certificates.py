@@ -74,24 +74,19 @@ def built() -> str:
 
 
 def cut(program: str, most: int = 1000000) -> Iterator[tuple[str, bytes, int, list[str], list[bytes]]]:
-    """Each of these examples of at most so many states: the name, the image, FROM, the text, and some five parts."""
+    """Each example of at most so many states whose search closes from the first moment on: the name, the image, FROM,
+    the text, and some five parts."""
     engine = built()
-    for name, image, words, told in closing(program):
-        first, states = int((words[2:] or ["0"])[0]), int(told[-1].split()[1])
-        if states <= most:
+    for path, name, image, _ in examples.searched(program, "every"):
+        words, *told = contents(path).decode().splitlines()
+        states = int(told[-1].split()[1])
+        if told[-1].endswith(" closed") and " after " not in words and states <= most:
+            first = int((words.split()[2:] or ["0"])[0])
             with tempfile.TemporaryDirectory() as folder:
                 size = str(max(states // 5, 2))
                 same(f"{name}: the end of the cut",
                      run([engine, "cut", str(first), size, "1000000", "3", folder], image)[1], 0)
                 yield name, image, first, told, [path.read_bytes() for path in sorted(Path(folder).iterdir())]
-
-
-def closing(program: str) -> Iterator[tuple[str, bytes, list[str], list[str]]]:
-    """The examples whose searches close from the first moment on: the name, the image, the words, and the text."""
-    for path, name, image, _ in examples.searched(program, "every"):
-        words, *told = contents(path).decode().splitlines()
-        if told[-1].endswith(" closed") and " after " not in words:
-            yield name, image, words.split(), told
 
 
 def said(about: str, told: Sequence[str]) -> bytes:

@@ -45,7 +45,9 @@ def step_counters(program: str) -> None:
     """No crate below the commands names what a counter is made of. Planted ways to make one are tried first."""
     for title, text in PLANTED.items():
         files = parted(text) if text.startswith("crates/") else {KERNEL: f"fn leaf() {{ {text} }}\n"}
-        if bool(found_in(files)) == title.startswith("no "):
+        with planted(files) as place:
+            is_found = any(counters_named(place))
+        if is_found == title.startswith("no "):
             raise Differs(f"a planted counter is found, or isn't, where it is the other way round: {title}")
     if found := list(counters_named(REPOSITORY)):
         raise Differs(f"a step counter can be made: {', '.join(found)}")
@@ -93,9 +95,3 @@ def ends_used(top: str, found: set[str]) -> Iterator[str]:
         for other in used:
             if other in found or other.startswith(TESTS) and not crate.startswith(TESTS):
                 yield f"{crate} stands on {other}"
-
-
-def found_in(files: dict[str, str]) -> list[str]:
-    """What is found in a tree of these files alone."""
-    with planted(files) as place:
-        return list(counters_named(place))

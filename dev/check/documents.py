@@ -17,8 +17,7 @@ from common.machine import script
 from exporter import crates
 from pages import runnable, site
 from .examples import script_gives
-from .running import (REPOSITORY, Differs, commands_of, expect, part, paths, run, text_of, told_path, write,
-                      write_program)
+from .running import REPOSITORY, Differs, expect, part, paths, run, text_of, told_path, write, write_program
 
 MARK = b"-- the next command --\n"
 LEAST = 20               # blocks that run: a rule that tells none would pass
@@ -108,31 +107,21 @@ def joined(lines: Sequence[str]) -> bytes:
 
 @contextlib.contextmanager
 def folder_of(programs: dict[str, str]) -> Iterator[str]:
-    """A folder with what the commands of a session name."""
+    """A folder with what the commands of a session name: examples/, the folders of tools, ./pip and ./lab."""
     with tempfile.TemporaryDirectory() as place:
-        beside(place, programs)
+        for folder in ("examples", "tools", "class", "dev"):
+            os.symlink(os.path.join(REPOSITORY, folder), os.path.join(place, folder))
+        for wrapper, program in programs.items():
+            os.symlink(os.path.abspath(program), os.path.join(place, wrapper))
         yield place
-
-
-def beside(place: str, programs: dict[str, str]) -> None:
-    """Puts beside a session what its commands name: examples/, the folders of tools, ./pip and ./lab."""
-    for folder in ("examples", "tools", "class", "dev"):
-        os.symlink(os.path.join(REPOSITORY, folder), os.path.join(place, folder))
-    for wrapper, program in programs.items():
-        os.symlink(os.path.abspath(program), os.path.join(place, wrapper))
 
 
 def both_programs(program: str, place: str) -> dict[str, dict[str, str]]:
     """By the reference and by the programs: each pair by what a session calls them."""
-    return {", by the reference": {name: by_reference(script, place)
+    told = f'#!/bin/sh\nexec "{sys.executable}" -B "{REPOSITORY}/dev/reference/NAME" "$@"\n'
+    return {", by the reference": {name: write_program(told.replace("NAME", script), place, script)
                                    for name, script in (("pip", "program.py"), ("lab", "lab.py"))},
             "": {"pip": program, "lab": calling.lab(program)}}
-
-
-def by_reference(script: str, place: str) -> str:
-    """The path of a program that is a script of the reference."""
-    path = os.path.join(REPOSITORY, "dev", "reference", script)
-    return write_program(f'#!/bin/sh\nexec "{sys.executable}" -B "{path}" "$@"\n', place, script)
 
 
 # The tutorial
@@ -160,8 +149,8 @@ def commands_give(name: str, programs: dict[str, str], by: str) -> None:
         text = text_of(name)
         if not text.startswith("$ "):
             raise Differs(f"{name} doesn't begin with a command")
-        for command, shown in commands_of(text):
-            expect(f"{name}, '$ {command}'{by}", run(["sh", "-c", command], cwd=place), (shown, 0))
+        for command, shown in runnable.commands(text.split("\n")[:-1]):
+            expect(f"{name}, '$ {command}'{by}", run(["sh", "-c", command], cwd=place), (joined(shown), 0))
 
 
 def tutorial_blocks(program: str) -> None:

@@ -89,11 +89,6 @@ def scripts() -> list[str]:
     return paths("examples/**/*.pip")
 
 
-def answers_of(script: str) -> bool:
-    """Whether a script has its answers beside it."""
-    return os.path.exists(script[:-len(".pip")] + ".out")
-
-
 def same_states(program: str, script: str) -> None:
     name = told_path(script)
     page, messages, status = step_pages.stepped(program, script, "--to", str(step_pages.MOST_LINES))
@@ -154,14 +149,9 @@ def facts() -> str:
 
 
 def generated_texts(command: str) -> Iterator[bytes]:
-    return filter(is_utf8, (generate.case(command, FIRST_SEED + k)[1] for k in range(CASES_OF_REASONS)))
-
-
-def is_utf8(text: bytes) -> bool:
-    try:
-        return text.decode() is not None
-    except UnicodeDecodeError:
-        return False
+    """Those that are UTF-8."""
+    texts = (generate.case(command, FIRST_SEED + k)[1] for k in range(CASES_OF_REASONS))
+    return (text for text in texts if text.decode("utf-8", "ignore").encode() == text)
 
 
 def same_reason(program: str, text: bytes, told: Any, as_assembly: bool) -> bool:

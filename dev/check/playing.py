@@ -62,7 +62,7 @@ def in_browser(program: str) -> None:
     if not found():
         raise Skipped("no Chromium")
     path = os.path.join(sites.made(), "playground.html")
-    answered = [script for script in playground.scripts() if playground.answers_of(script)]
+    answered = [script for script in playground.scripts() if os.path.exists(script[:-len("pip")] + "out")]
     checked = len(answered) + len(paths("examples/*.run"))
     names = {**NAMES, "COUNT": str(checked), "NO_TABLE": meanings.of_status(9),
              "SOLUTION": text_of(judging.solutions()["store"]), "SERVICES": text_of("examples/timer_and_services.s")}

@@ -158,12 +158,6 @@ def tool(program: str | None, name: str, *words: str, text: bytes = b"", place: 
     return (done.stdout or b"").decode("utf-8", "replace"), messages, done.returncode
 
 
-def commands_of(text: str) -> list[tuple[str, bytes]]:
-    """The commands of a session, each after `$ `, with what is shown below it."""
-    parts = (told.rstrip("\n").partition("\n") for told in f"\n{text}".split("\n$ ")[1:])
-    return [(command, (shown + newline).encode()) for command, newline, shown in parts]
-
-
 def copied(place: str, *names: str, without: Sequence[str] = ()) -> None:
     """Copies files and folders of the repository, without what was built and these."""
     left_out = shutil.ignore_patterns("out", "__pycache__", *without)

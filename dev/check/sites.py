@@ -14,6 +14,7 @@ from typing import Any
 
 from exercises import judging
 from pages import rendering
+from pages.runnable import has_part
 from . import playground
 from .browser import Browser, Failed, found
 from .running import Differs, Skipped, finished, called, needed, run, text_of
@@ -114,10 +115,6 @@ def wrong(told: Told, given: Sequence[Sequence[str]]) -> str:
         if not same or "this page " in lines[:1]:
             return f"'{command}' gives {list(lines)[:3]}, where {(due or [])[:3]} is printed"
     return ""
-
-
-def has_part(whole: Sequence[str], part: Sequence[str]) -> bool:
-    return any(list(whole[at:at + len(part)]) == list(part) for at in range(len(whole)))
 
 
 def planted() -> None:

@@ -25,9 +25,6 @@ class Edits:
     def put(self, start: int, end: int, new: str) -> None:
         self.all.append((start, end, new))
 
-    def cut(self, start: int, end: int) -> None:
-        self.put(start, end, GONE)
-
     def done(self) -> str:
         """The changed text. A change inside of what is taken out counts for nothing."""
         pieces: list[str] = []
@@ -198,7 +195,7 @@ def ghost_item(source: Source, place: int, edits: Edits) -> int:
     token = source.at(place)
     head = source.head(place)
     if re.match(r"ghost\s+use\b", token.text):
-        edits.cut(source.at(head).start, token.end)
+        edits.put(source.at(head).start, token.end, GONE)
     else:
         keep_item(source, head, place, edits)
     return place + 1

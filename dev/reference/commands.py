@@ -52,7 +52,7 @@ def slots_of(words: Sequence[str]) -> tuple[int, native.Round, int] | None:
     try:
         if len(words) == 3 and ":" not in words[2]:
             n, turns, rounds = map(script.number, map(str.encode, words))
-            round = native.in_turn(min(n, native.MOST_CHILDREN + 1), turns)
+            round = [(child, turns) for child in range(min(n, native.MOST_CHILDREN + 1))]
         else:
             n, rounds = map(script.number, map(str.encode, words[:2]))
             round = [given_slot(word) for word in words[2:]]
@@ -62,7 +62,8 @@ def slots_of(words: Sequence[str]) -> tuple[int, native.Round, int] | None:
         return None
     if any(child >= n or turns > MOST_STEPS for child, turns in round):
         return None
-    return (n, round, rounds) if max(rounds, native.steps_of(round, rounds)) <= MOST_STEPS else None
+    steps = rounds * sum(turns + 2 for _, turns in round)
+    return (n, round, rounds) if max(rounds, steps) <= MOST_STEPS else None
 
 
 def given_slot(word: str) -> tuple[int, int]:
@@ -135,10 +136,6 @@ def in_lines(told: Iterable[str]) -> bytes:
     return "".join(line + "\n" for line in told).encode("utf-8", "surrogateescape")
 
 
-def asm(text: bytes) -> Ended:
-    return (b"", 6, None) if len(text) > script.MOST else (assembly.assemble(text), 0, None)
-
-
 def dis(data: bytes) -> Ended:
     told = []
     try:
@@ -149,7 +146,9 @@ def dis(data: bytes) -> Ended:
     return in_lines(told), 0, None
 
 
-ON_TEXTS: dict[str, Callable[[bytes], Ended]] = {"script": script.ended, "asm": asm, "dis": dis}
+ON_TEXTS: dict[str, Callable[[bytes], Ended]] = {
+    "script": script.ended, "dis": dis,
+    "asm": lambda text: (b"", 6, None) if len(text) > script.MOST else (assembly.assemble(text), 0, None)}
 
 
 def on_image(command: OnImage, data: bytes, *words: Any, children: int = 0) -> Ended:

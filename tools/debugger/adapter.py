@@ -125,7 +125,7 @@ class Adapter:
         command = str(message.get("command", ""))
         self.pausing -= command in PAUSING
         told = {"request_seq": message.get("seq", 0), "command": command}
-        work = getattr(self, "on_" + snake(command), None)
+        work = getattr(self, "on_" + re.sub("(?=[A-Z])", "_", command).lower(), None)
         try:
             if work is None:
                 raise Failed((message.get("arguments") or {}).get("said", f"{command} isn't known here"))
@@ -475,7 +475,7 @@ class Adapter:
     # Expressions, memory, instructions
 
     def on_evaluate(self, given: Arguments) -> Any:
-        chosen, self.on.cpu = self.on.cpu, self.cpu_of(given)
+        chosen, self.on.cpu = self.on.cpu, self.frame_of(given)[0] if given.get("frameId") else None
         try:
             word = given["expression"].split()[0] if given["expression"].split() else ""
             if given.get("context") == "repl" and word in (*SHOWING, *CHANGING):
@@ -484,9 +484,6 @@ class Adapter:
             return {"result": f"0x{value:08x}", "variablesReference": 0}
         finally:
             self.on.cpu = chosen
-
-    def cpu_of(self, given: Arguments) -> int | None:
-        return self.frame_of(given)[0] if given.get("frameId") else None
 
     def frame_of(self, given: Arguments) -> tuple[int, int, bool]:
         number = int(given["frameId"])
@@ -562,10 +559,6 @@ def limits(given: Arguments) -> tuple[str | None, int]:
     if not times.strip().isdecimal():
         raise Failed(f"a hit count is a number, the time at which it stops a run, and not {times!r}")
     return given.get("condition") or None, int(times)
-
-
-def snake(name: str) -> str:
-    return re.sub(r"[A-Z]", lambda found: "_" + str(found[0]).lower(), name)
 
 
 def variable(name: str, value: str, reference: int = 0, **more: Any) -> Variable:

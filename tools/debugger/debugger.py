@@ -74,7 +74,8 @@ class Debugger:
                  every_step: int = EVERY) -> None:
         self.program, self.states, self.path = program, process, path
         self.events: list[Event] = []                    # of a script, after its first line
-        self.is_script = path != "-" and begins_script(calling.contents(path, asmx.MOST_IMAGE))
+        data = b"" if path == "-" else calling.contents(path, asmx.MOST_IMAGE)
+        self.is_script = re.match(rb"(#[^\n]*\n|\n)*boot ", data) is not None       # its first line that isn't blank
         if self.is_script:
             self.data, self.source, schedule = calling.contents(path), sources.Source(path), "script"
             self.events = events_of(program, path, self.data)
@@ -466,11 +467,6 @@ class Debugger:
             elif number in self.stops:
                 told.append(f"{kind} {number}: {self.stops[number].text}")
         return told
-
-
-def begins_script(data: bytes) -> bool:
-    """Whether the first line of a text that isn't blank begins a script."""
-    return re.match(rb"(#[^\n]*\n|\n)*boot ", data) is not None
 
 
 def events_of(program: str, path: str, data: bytes) -> list[Event]:
