@@ -18,7 +18,7 @@ from debugger.building import SEARCHES
 from reference import generate_parts, parts, plain
 from common.machine import image as images
 from . import examples
-from .running import Differs, contents, expect, needed, run, same, says
+from .running import Differs, contents, ensure, expect, needed, run, same, says
 
 PLANTED = 1000                   # certificates with something wrong, at least
 MOST_CHECKED = 60                # parts with a wrong mark, a wrong way or a wrong text that are checked of an example
@@ -35,8 +35,8 @@ def certificates(program: str) -> None:
         expect(f"{name}: the merge", run([calling.lab(program), "merge"], b"".join(merged)), (said(about, told), 0))
         for tried, (what, wrong) in enumerate(wrong_certificates(program, name, first, image, texts, lines), tried + 1):
             answer, status = run([calling.lab(program), "merge"], b"".join(wrong))
-            if status not in (2, 9):
-                raise Differs(f"{name}: a wrong certificate ({what}) ends with status {status}: {answer.decode()}")
+            ensure(status in (2, 9), f"{name}: a wrong certificate ({what}) ends with status {status}: "
+                   f"{answer.decode()}")
         for text in texts:
             has_one_text(chance, program, name, first, image, text)
         if states < 200:
@@ -45,8 +45,7 @@ def certificates(program: str) -> None:
                 expect(f"{name}: the lines of a part", plain.told(["part", str(first)], image + text),
                        (b"".join(own), 0))
     goes_on(program, image)
-    if tried < PLANTED:
-        raise Differs(f"{tried} wrong certificates were tried, which are less than {PLANTED}")
+    ensure(tried >= PLANTED, f"{tried} wrong certificates were tried, which are less than {PLANTED}")
 
 
 def goes_on(program: str, image: bytes) -> None:

@@ -13,7 +13,7 @@ import re
 from collections.abc import Iterator
 
 from common.blocks import blocks, escaped, parted
-from .running import REPOSITORY, Differs, planted
+from .running import REPOSITORY, Differs, ensure, planted
 from .sources import sources
 
 COMMANDS = "pip_children", "pip_commands", "pip_search_commands", "pip_certificate_commands", "pip_lab_commands"
@@ -47,8 +47,8 @@ def step_counters(program: str) -> None:
         files = parted(text) if text.startswith("crates/") else {KERNEL: f"fn leaf() {{ {text} }}\n"}
         with planted(files) as place:
             is_found = any(counters_named(place))
-        if is_found == title.startswith("no "):
-            raise Differs(f"a planted counter is found, or isn't, where it is the other way round: {title}")
+        ensure(is_found != title.startswith("no "), "a planted counter is found, or isn't, where it is the other way "
+               f"round: {title}")
     if found := list(counters_named(REPOSITORY)):
         raise Differs(f"a step counter can be made: {', '.join(found)}")
 

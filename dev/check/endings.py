@@ -13,7 +13,7 @@ from authors import asmx
 from common import calling, forms
 from common.machine import image as images
 from reference import commands as reference, parts
-from .running import REPOSITORY, SECONDS, Differs, Output, contents, expect, finished, run, same, write
+from .running import REPOSITORY, SECONDS, Differs, Output, contents, ensure, expect, finished, run, same, write
 
 HERE = os.path.dirname(os.path.abspath(__file__))
 MOST = 1 << 24           # bytes of an input
@@ -92,8 +92,7 @@ def gathered_answers(program: str) -> None:
         due = b"boot 32 1\n" + b"0x00000000\n" * LINES
         expect(f"a script of {LINES} lines", (contents(text), status), (due, 0))
         count = int(contents(counted).split()[2])
-        if not 0 < count <= MOST_WRITES:
-            raise Differs(f"a script of {LINES} lines: {count} writes, where {MOST_WRITES} are the most")
+        ensure(0 < count <= MOST_WRITES, f"a script of {LINES} lines: {count} writes, where {MOST_WRITES} are the most")
 
 
 # Each allocation of a command is refused in turn: it ends for want of memory, and nothing was written

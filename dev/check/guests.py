@@ -6,7 +6,7 @@ import os
 import random
 import re
 
-from .running import Differs, run, text_of
+from .running import Differs, ensure, run, text_of
 
 MONITOR = os.path.join("examples", "two_guests.s")
 SEEDS, PROGRAMS = range(1, 9), 60        # of the schedule, and hostile first guests with each
@@ -30,8 +30,8 @@ def hostile_guests(program: str) -> None:
     """First guests that do anything at random. A monitor that keeps its handler of the line is tried first."""
     text = text_of(MONITOR)
     careless = text.replace(*CARELESS)
-    if careless == text or not any(troubles(program, careless, seed) for seed in SEEDS):
-        raise Differs(f"{MONITOR}: nothing shows that a guest can use a handler of the line")
+    ensure(careless != text and any(troubles(program, careless, seed) for seed in SEEDS), f"{MONITOR}: nothing shows "
+           "that a guest can use a handler of the line")
     found = [trouble for seed in SEEDS for trouble in troubles(program, text, seed)]
     if found:
         raise Differs(f"{len(found)} first guests have an effect on the second: {found[0]}")
@@ -39,9 +39,8 @@ def hostile_guests(program: str) -> None:
 
 def troubles(program: str, text: str, seed: int) -> list[str]:
     """What goes wrong beside the hostile guests of one seed."""
-    alone = second(trace(program, text, [], seed))
-    if alone is None or len(alone) < LEAST:
-        raise Differs(f"{MONITOR}, seed {seed}: the second guest has {len(alone or [])} lines beside an honest one")
+    alone = second(trace(program, text, [], seed)) or []
+    ensure(len(alone) >= LEAST, f"{MONITOR}, seed {seed}: the second guest has {len(alone)} lines beside an honest one")
     drawn, found = random.Random(seed), list[str]()
     for number in range(PROGRAMS):
         lines = [line for _ in range(drawn.randint(3, 10)) for line in attempt(drawn)]
@@ -68,8 +67,7 @@ def trace(program: str, text: str, hostile: list[str], seed: int) -> list[str]:
     padded = hostile + ["addi r15 r15 0"] * (ROOM - len(hostile))
     planted = text.replace("\ntop:\n", "\n".join(["", "top:", *HONEST, *padded, "honest:", ""]), 1)
     image, status = run([program, "asm"], planted.encode())
-    if status or planted == text:
-        raise Differs(f"{MONITOR} with a hostile guest is no image: {image[:80]!r}")
+    ensure(not status and planted != text, f"{MONITOR} with a hostile guest is no image: {image[:80]!r}")
     return run([program, "run", STEPS, str(seed)], image)[0].decode().splitlines()
 
 

@@ -12,7 +12,7 @@ from pathlib import Path
 
 from exporter import workspace
 from .links import documents, without_code
-from .running import REPOSITORY, Differs, folders_of, planted_for, text_of
+from .running import REPOSITORY, Differs, ensure, folders_of, planted_for, text_of
 from .sources import sources, texts
 
 MOST = 120                              # columns of a line
@@ -93,18 +93,16 @@ PLACES = {"CHANGELOG.md": r"^## (\S+)", "dev/bench/plain/Cargo.toml": r'^version
 def versions(program: str) -> None:
     """Each other place has the number, and a newest entry of CHANGELOG.md is of it. Planted texts are tried first."""
     number = text_of("VERSION")
-    if not FORM.fullmatch(number):
-        raise Differs(f"VERSION is {number!r}, and no three numbers with points between them")
+    ensure(FORM.fullmatch(number), f"VERSION is {number!r}, and no three numbers with points between them")
     texts = {path: text_of(path) for path in PLACES}
     for path in PLACES:
         planted = {**texts, path: texts[path].replace(number.strip(), "0.0.0", 1)}
-        if [found.split(":")[0] for found in others(number.strip(), planted)] != [path]:
-            raise Differs(f"a planted version of {path} isn't found")
+        ensure([found.split(":")[0] for found in others(number.strip(), planted)] == [path], "a planted version of "
+               f"{path} isn't found")
     found = list(others(number.strip(), texts))
     if f'version = "{number.strip()}"' not in workspace.package("pip", "", Path(REPOSITORY)):
         found.append("exported crates have another")
-    if found:
-        raise Differs("; ".join(found))
+    ensure(not found, "; ".join(found))
 
 
 def others(number: str, texts: dict[str, str]) -> Iterator[str]:

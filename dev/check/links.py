@@ -8,7 +8,7 @@ import re
 from collections.abc import Iterator
 
 from pages.rendering import anchor
-from .running import REPOSITORY, Differs, paths, planted, text_of, told_path, write
+from .running import REPOSITORY, Differs, ensure, paths, planted, text_of, told_path, write
 from .sources import sources
 
 LINK = re.compile(r"\]\(([^)\s]+)\)")
@@ -21,22 +21,20 @@ def links(program: str) -> None:
     anchors: dict[str, set[str]] = {}
     for path in documents(REPOSITORY):
         for name in PATH.findall(without_code(path)):
-            if not any(part in name for part in LEFT_OUT_PATHS) and not os.path.exists(os.path.join(REPOSITORY, name)):
-                raise Differs(f"{told_path(path)}: {name} isn't there")
+            ensure(any(part in name for part in LEFT_OUT_PATHS) or os.path.exists(os.path.join(REPOSITORY, name)),
+                   f"{told_path(path)}: {name} isn't there")
         for target in LINK.findall(without_code(path)):
             if re.match("[a-z]+:", target):
                 continue
             name, _, anchor = target.partition("#")
             place = os.path.normpath(os.path.join(os.path.dirname(path), name)) if name else path
-            if not os.path.exists(place):
-                raise Differs(f"{told_path(path)}: {target} isn't there")
-            if anchor and anchor not in anchors.setdefault(place, headings(place)):
-                raise Differs(f"{told_path(path)}: {target} names no heading")
+            ensure(os.path.exists(place), f"{told_path(path)}: {target} isn't there")
+            ensure(not anchor or anchor in anchors.setdefault(place, headings(place)), f"{told_path(path)}: {target} "
+                   "names no heading")
     contracts()
     from . import checks        # which has this one in its list
     unknown = set(checks_named()) - set(checks.CHECKS)
-    if unknown:
-        raise Differs(f"documents name checks that aren't there: {', '.join(sorted(unknown))}")
+    ensure(not unknown, f"documents name checks that aren't there: {', '.join(sorted(unknown))}")
 
 
 def checks_named() -> Iterator[str]:
@@ -53,8 +51,8 @@ def checks_named() -> Iterator[str]:
 def contracts() -> None:
     """Each contract in the table of PROVED.md is one of its crate. A planted one that isn't is tried first."""
     text = text_of("docs/PROVED.md")
-    if list(gone(text.replace("`soak_load`", "`soak_loads`"))) != ["pip_soak has no soak_loads"]:
-        raise Differs("docs/PROVED.md: a contract that isn't there isn't found")
+    ensure(list(gone(text.replace("`soak_load`", "`soak_loads`"))) == ["pip_soak has no soak_loads"],
+           "docs/PROVED.md: a contract that isn't there isn't found")
     if list(gone(text)):
         raise Differs(f"docs/PROVED.md: {', '.join(gone(text))}")
 
@@ -108,11 +106,9 @@ def index(program: str) -> None:
     files = {"examples/one.pip": "# One: a word. Look at it.\n# More.\nboot 16 1\n", "examples/one.out": "boot 16 1\n"}
     with planted(files) as top:
         rows = list(rows_of(top, "examples"))
-    if rows != ["| [one.pip](one.pip) | One: a word | `out` |"]:
-        raise Differs(f"planted examples have the lines {rows}")
+    ensure(rows == ["| [one.pip](one.pip) | One: a word | `out` |"], f"planted examples have the lines {rows}")
     before, _, after = text_of(INDEX).partition(BEGIN)
-    if after != listed(REPOSITORY):
-        raise Differs(f"{INDEX} isn't as the files are: dev/check/run.py --write-index")
+    ensure(after == listed(REPOSITORY), f"{INDEX} isn't as the files are: dev/check/run.py --write-index")
     endings = {os.path.splitext(path)[1] for path in paths("examples/**/*.*") if not path.endswith((".md", ".html"))}
     if missing := sorted(ending for ending in endings if f"`{ending}`" not in before):
         raise Differs(f"{INDEX} doesn't say what a file {missing[0]} is")

@@ -11,7 +11,7 @@ from collections.abc import Iterable, Iterator
 from common.blocks import blocks, parted
 from exporter.tokens import braces_end
 from .counters import NO_CODE
-from .running import REPOSITORY, Differs, planted, text_of, write
+from .running import REPOSITORY, Differs, ensure, planted, text_of, write
 from .sources import sources
 
 LIST = os.path.join(os.path.dirname(os.path.abspath(__file__)), "public_calls.txt")
@@ -30,14 +30,12 @@ def public_calls(program: str) -> None:
     """Each call of the list is as it says. That each kind of change is found is tried first, on planted libraries."""
     with planted({PLACE: PLANTED}) as top:
         due = written(top, "pip_planted:\n    SIZE\n    Table::find\n    Rows::count\n    Rows::found\n    look\n")
-    if due != LISTED:
-        raise Differs(f"a planted library is listed as {due}")
+    ensure(due == LISTED, f"a planted library is listed as {due}")
     for title, text in CHANGED.items():
         what, _, names = title.partition(": ")
         found = [difference.split(" ")[1] for difference in changes(*(
             "\n".join(line[2:] for line in text.splitlines() if line.startswith(mark)) for mark in ("- ", "+ ")))]
-        if found != names.split():
-            raise Differs(f"a planted change of {names or 'nothing'} is seen as one of {found}: {what}")
+        ensure(found == names.split(), f"a planted change of {names or 'nothing'} is seen as one of {found}: {what}")
     if found := list(differences(REPOSITORY, text_of(LIST))):
         raise Differs("; ".join(found))
 
@@ -106,8 +104,7 @@ def shown(lines: list[str], others: list[str]) -> str:
 
 def changes(old: str, new: str) -> list[str]:
     """What differs from the planted library's list where a text in it is another."""
-    if PLANTED.count(old) != 1:
-        raise Differs(f"the planted library has {old!r} {PLANTED.count(old)} times")
+    ensure(PLANTED.count(old) == 1, f"the planted library has {old!r} {PLANTED.count(old)} times")
     with planted({PLACE: PLANTED.replace(old, new)}) as top:
         return list(differences(top, LISTED))
 

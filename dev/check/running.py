@@ -86,6 +86,12 @@ class Skipped(Exception):
     """Why a check can't be made here, as `no cargo`."""
 
 
+def ensure(good: object, why: str) -> None:
+    """Refuses what isn't good."""
+    if not good:
+        raise Differs(why)
+
+
 def needed(name: str) -> str:
     """The path of a tool; a check for which it is missing is skipped."""
     path = shutil.which(name)

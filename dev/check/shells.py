@@ -11,7 +11,7 @@ import termios
 import time
 
 from . import running
-from .running import REPOSITORY, SECONDS, Differs, called, contents, heed_interrupts, run, same, text_of
+from .running import REPOSITORY, SECONDS, Differs, called, contents, ensure, heed_interrupts, run, same, text_of
 
 
 def says(program: str, text: str, *words: str) -> str:
@@ -44,8 +44,8 @@ def costs_nothing(program: str) -> None:
     for line in bad:
         told = says(program, f"{begun}{line}\nld 0 0x400000\n").splitlines()
         has_rule = any(x.startswith("rule: ") for x in told)
-        if told[-1] != "0x00000007" or not told[2].startswith("bad line, nothing is changed: ") or not has_rule:
-            raise Differs(f"tools/shell, after the bad line {line[:30]!r}: {told}")
+        ensure(told[-1] == "0x00000007" and told[2].startswith("bad line, nothing is changed: ") and has_rule,
+               f"tools/shell, after the bad line {line[:30]!r}: {told}")
     expect("undo of a store", says(program, begun + "undo\nld 0 0x400000\n"),
            "boot 64 1\ndone\ntaken back: st 0 0x400000 7\n0x00000000\n")
     expect("undo of two lines", says(program, begun + "# a\nundo 2\nlist\nundo\n").splitlines()[-4:][1:],
@@ -101,8 +101,7 @@ def on_a_terminal(program: str) -> None:
                           (b"ld 0 0x40\x03", "pip> "), (b"ld 0 0x400000\r", "0x00000000\r\npip> "), (b"\x04", "")):
             os.write(outer, keys)
             wait_for(outer, due)
-        if begun.wait(SECONDS):
-            raise Differs(f"tools/shell on a terminal ends with status {begun.returncode}")
+        ensure(not begun.wait(SECONDS), f"tools/shell on a terminal ends with status {begun.returncode}")
     finally:
         begun.kill()
         begun.wait()
@@ -117,8 +116,8 @@ def take_terminal(terminal: int) -> None:
 def wait_for(terminal: int, due: str) -> None:
     shown, limit = "", time.monotonic() + SECONDS
     while due not in shown:
-        if not select.select([terminal], [], [], max(limit - time.monotonic(), 0))[0]:
-            raise Differs(f"tools/shell on a terminal: {shown!r}, where {due!r} is due")
+        ensure(select.select([terminal], [], [], max(limit - time.monotonic(), 0))[0], "tools/shell on a terminal: "
+               f"{shown!r}, where {due!r} is due")
         try:
             shown += os.read(terminal, 4096).decode("utf-8", "replace")
         except OSError:                              # nobody has the other end any more
