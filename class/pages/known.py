@@ -9,7 +9,7 @@ from typing import Any
 
 from authors import why
 from common import meanings
-from common.calling import REPOSITORY, Failed
+from common.calling import REPOSITORY, there
 from exercises import exercise
 from common.machine import assembly, instructions, script
 from step import page
@@ -76,9 +76,8 @@ def exercises() -> Iterator[dict[str, str | bool]]:
     """Each exercise with what it asks, and the text with which one begins: of a program the lines that each has. Some
     scripts are a part of what the judge runs."""
     for name, told in exercise.sections().items():
-        solution = next(EXAMPLES.joinpath("solutions").glob(f"{name}.*"), None)
-        if solution is None:
-            raise Failed(f"docs/EXERCISES.md has the exercise {name}, and examples/solutions has none of it")
+        solution = there(next(EXAMPLES.joinpath("solutions").glob(f"{name}.*"), None),
+                         f"docs/EXERCISES.md has the exercise {name}, and examples/solutions has none of it")
         is_script = solution.suffix == ".pip"
         yield {"name": "exercise " + name, "exercise": name, "group": "Exercises",
                "kind": "script" if is_script else "assembly", "text": "" if is_script else BEGINNING,

@@ -20,7 +20,7 @@ from pathlib import Path
 
 from authors import asmx
 from common import calling
-from common.calling import Failed
+from common.calling import Failed, ensure
 from playground import module
 from . import known, rendering, searching
 from .known import TOP
@@ -79,8 +79,7 @@ def make(to: Path, made: Path | None, debian: Path | None) -> None:
             made = Path(place) / "pip.wasm"
             module.make(made, debian)
         binary = made.read_bytes()
-        if not binary.startswith(b"\0asm"):
-            raise Failed(f"{made} is no module of WebAssembly")
+        ensure(binary.startswith(b"\0asm"), f"{made} is no module of WebAssembly")
         files = Site().files(binary)
     if to.exists():
         shutil.rmtree(to)
@@ -271,17 +270,16 @@ class Chapter:
         return f'<tr id="{PREFIX}{name}">{found[0][len("<tr>"):]}'
 
     def block(self, found: Rendered, line: int, text: str) -> str:
-        at = self.places.get(line)
+        at = self.places.get(line, -1)
         where = f"{self.path}:{line}"
-        if at is None or self.document.blocks[at].text != text:
-            raise Failed(f"{where}: two readers of Markdown see different blocks")
+        ensure(at >= 0 and self.document.blocks[at].text == text, f"{where}: two readers of Markdown see "
+               "different blocks")
         block = self.document.blocks[at]
         try:
             runs = self.document.runs(at)
         except Wrong as wrong:
             raise Failed(f"{self.path}: {wrong}") from None
-        if block.kind is None:
-            raise Failed(f"{where}: nothing tells what this block is")
+        ensure(block.kind is not None, f"{where}: nothing tells what this block is")
         if block.source:
             _, title, name = found.headings[-1]
             self.site.used.setdefault(block.source, []).append(

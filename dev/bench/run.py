@@ -17,7 +17,7 @@ import os
 from collections.abc import Iterator
 
 from common import calling
-from common.calling import REPOSITORY, Failed
+from common.calling import REPOSITORY, ensure
 from reference import plain
 from . import deletions, slopes, timing
 from .count import PROGRAM, Counted
@@ -33,8 +33,7 @@ def show(given: argparse.Namespace) -> None:
         growth(Figures(program))
         return
     if given.tables or given.slopes:
-        if path is None:
-            raise Failed("the tables have two programs: add --plain or --beside PATH")
+        ensure(path is not None, "the tables have two programs: add --plain or --beside PATH")
         both = program, Counted(path, is_both=True)
         for row in slopes.rows(*both) if given.slopes else tables(*both):
             print(row, flush=True)

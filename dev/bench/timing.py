@@ -11,7 +11,7 @@ from collections.abc import Callable
 from authors import asmx
 from common import calling
 from common.blocks import blocks
-from common.calling import REPOSITORY, Failed
+from common.calling import REPOSITORY, ensure
 from common.machine import image as images
 from reference import parts
 from . import worst
@@ -43,8 +43,7 @@ def guests(program: Counted, numbers: str, shown: str) -> bytes:
     text = text_of("examples/two_guests.s").decode()
     for old, new in (("andi r2 r1 7", f"andi r2 r1 {int(shown) - 1}"),
                      ("andi r2 r1 63", f"andi r2 r1 {int(numbers) - 1}"), ("addi r1 r1 -64", f"addi r1 r1 -{numbers}")):
-        if text.count(f"\n{old}\n") != 1:
-            raise Failed(f"examples/two_guests.s has no line '{old}', or several")
+        ensure(text.count(f"\n{old}\n") == 1, f"examples/two_guests.s has no line '{old}', or several")
         text = text.replace(f"\n{old}\n", f"\n{new}\n")
     return program.written(text.encode(), "asm")
 
@@ -123,8 +122,7 @@ def used(program: Counted, text: bytes, words: str) -> float:
         process = subprocess.Popen(program.called(words.split()), stdin=file, stdout=subprocess.DEVNULL)
         _, status, usage = os.wait4(process.pid, 0)
         process.returncode = os.waitstatus_to_exitcode(status)
-    if process.returncode not in (0, 9):
-        raise Failed(f"{words} ends with status {process.returncode}")
+    ensure(process.returncode in (0, 9), f"{words} ends with status {process.returncode}")
     return float(usage.ru_utime + usage.ru_stime)
 
 

@@ -22,7 +22,7 @@ from dataclasses import dataclass, field
 from typing import NamedTuple
 
 from common import calling
-from common.calling import Failed
+from common.calling import Failed, ensure
 from common.machine import against, assembly, instructions
 from debugger.rules import Rule, rule_of
 from . import why
@@ -154,15 +154,13 @@ class Files:
 
     def contents(self, path: str) -> bytes:
         self.count += 1
-        if self.count > MOST_FILES:
-            raise Failed(f"{path}: more than {MOST_FILES} files are included")
+        ensure(self.count <= MOST_FILES, f"{path}: more than {MOST_FILES} files are included")
         return self.held[path] if path in self.held else calling.contents(path)
 
 
 def lines_of(path: str, files: Files, above: tuple[str, ...] = ()) -> Iterator[tuple[Place, list[Word]]]:
     """The lines of a file and of those that it includes, without remarks: a place and its words each."""
-    if len(above) > DEEPEST:
-        raise Failed(f"{path}: files are included more than {DEEPEST} deep")
+    ensure(len(above) <= DEEPEST, f"{path}: files are included more than {DEEPEST} deep")
     data = files.contents(path)
     if data and (what := why.no_text(path, data)):
         raise Failed(what)
@@ -531,8 +529,7 @@ def processed(path: str, files: Files | None = None) -> tuple[Lines, Text]:
             with collecting(wrongs):
                 if words:
                     text.take(words)
-            if count > MOST_LINES:
-                raise Failed(f"{path} has more than {MOST_LINES} lines, with what it includes")
+            ensure(count <= MOST_LINES, f"{path} has more than {MOST_LINES} lines, with what it includes")
     lines = text.written(wrongs)
     wrongs += [Wrong(place, "the line has more than 120 bytes") for place, line in lines if len(line.encode()) > 120]
     told = {wrong.place for wrong in wrongs}
@@ -588,12 +585,10 @@ def text_of(lines: Lines) -> bytes:
 def image_of(program: str, path: str) -> tuple[bytes, str | None]:
     """The image of a file, and its path where it is a source."""
     data = calling.contents(path, MOST_IMAGE)
-    if not data:
-        raise Failed(f"{path} is empty")
+    ensure(data, f"{path} is empty")
     if data.startswith(IMAGE):
         return data, None
-    if path == "-":
-        raise Failed("a source is given by its name, since it may include others")
+    ensure(path != "-", "a source is given by its name, since it may include others")
     lines, text = processed(path)
     warn(text)
     return assembled(program, lines), path

@@ -10,7 +10,7 @@ import re
 from collections.abc import Callable, Iterator, Sequence
 from typing import NamedTuple
 
-from common.calling import Failed
+from common.calling import Failed, ensure
 from common.machine import against, image as images, runs, script as scripts
 from common.machine.against import Deed
 from common.machine.image import Image
@@ -62,8 +62,7 @@ def choice_of(image: Image, word: str, menu: Menu) -> Choice:
     number, _, deed = word.removeprefix("raise").partition(":d")
     if word.startswith("raise"):
         return Choice(int(number), True)
-    if int(number) >= image.cpus or int(deed or "0") > len(menu):
-        raise Failed(f"{word!r} is no choice of this image")
+    ensure(int(number) < image.cpus and int(deed or "0") <= len(menu), f"{word!r} is no choice of this image")
     return Choice(int(number), False, menu[int(deed) - 1] if deed else None)
 
 
@@ -292,5 +291,5 @@ def ends_as_the_way(world: Told) -> None:
         word = "masked" if root.masked else "unmasked"
         world.remark(f"no line can say this here: the root is {word}, word 14 of frame 1")
         other.nodes[ROOT].masked = root.masked
-    if runs.core_lines(world.tree) != runs.core_lines(other):
-        raise Failed("the frames after the script aren't those after the way")
+    ensure(runs.core_lines(world.tree) == runs.core_lines(other), "the frames after the script aren't those after the "
+           "way")

@@ -8,7 +8,7 @@ from collections.abc import Callable, Iterator
 from typing import NamedTuple, NoReturn, Optional
 
 from common import calling, meanings
-from common.calling import Failed
+from common.calling import Failed, ensure
 from common.machine import against, assembly, instructions, script
 
 NUMBER = re.compile(rb"0|[1-9][0-9]*|0x[0-9a-f]{1,8}")
@@ -315,8 +315,7 @@ def by_program(program: str, kind: Kind) -> Judge:
     def judge(text: bytes) -> tuple[int, str] | None:
         output, status = calling.output(program, ["asm" if kind is ASSEMBLY else "script"], text)
         found = re.search(rb"bad line (\d+)(?: (\w+))?\n$", output)
-        if status and found is None:
-            raise Failed("the program refuses the text, and names no line")
+        ensure(not status or found is not None, "the program refuses the text, and names no line")
         return (int(found[1]), (found[2] or b"").decode()) if status and found else None
     return judge
 

@@ -23,7 +23,7 @@ from typing import IO, Any
 
 from authors import asmx
 from common import calling
-from common.calling import Failed
+from common.calling import Failed, ensure, there
 from common.machine.model import PAGE
 from . import building, sources, wire
 from .client import At, States, Stopped
@@ -148,9 +148,7 @@ class Adapter:
 
     @property
     def on(self) -> Logging:
-        if self.debugger is None:
-            raise Failed("nothing is launched")
-        return self.debugger
+        return there(self.debugger, "nothing is launched")
 
     # Begin and end
 
@@ -160,8 +158,7 @@ class Adapter:
 
     def on_launch(self, given: Arguments) -> Any:
         self.launched = given
-        if not given.get("program"):
-            raise Failed("launch has a program: an image, a source or a script")
+        ensure(given.get("program"), "launch has a program: an image, a source or a script")
         calling.direct(self.program)
         native, slots = given.get("native"), given.get("slots")
         schedule = schedule_of(str(given.get("seed", 1)), None if native is None else str(native),
@@ -394,8 +391,7 @@ class Adapter:
                            for name, make in scopes]}
 
     def variables(self, reference: int) -> list[Variable]:
-        if not 1 <= reference <= len(self.handles):
-            raise Failed("these variables are of an earlier state")
+        ensure(1 <= reference <= len(self.handles), "these variables are of an earlier state")
         return self.handles[reference - 1]()
 
     def on_variables(self, given: Arguments) -> Any:
@@ -464,8 +460,7 @@ class Adapter:
     def on_set_variable(self, given: Arguments) -> Any:
         """A register gets another word."""
         name = given["name"]
-        if not re.fullmatch(r"pc|r\d+", name):
-            raise Failed("registers alone can be set; store does it for words of a partition")
+        ensure(re.fullmatch(r"pc|r\d+", name), "registers alone can be set; store does it for words of a partition")
         register = 16 if name == "pc" else int(name[1:])
         value = self.on.value(given["value"])
         cpu = next((cpu for cpu, _, runs in self.frames if runs), 0)
@@ -487,8 +482,7 @@ class Adapter:
 
     def frame_of(self, given: Arguments) -> tuple[int, int, bool]:
         number = int(given["frameId"])
-        if not 1 <= number <= len(self.frames):
-            raise Failed("this frame is of an earlier state")
+        ensure(1 <= number <= len(self.frames), "this frame is of an earlier state")
         return self.frames[number - 1]
 
     def said(self, text: str) -> str:
@@ -556,8 +550,7 @@ class Adapter:
 def limits(given: Arguments) -> tuple[str | None, int]:
     """Of a stop its condition, and the time at which it stops a run."""
     times = given.get("hitCondition") or "1"
-    if not times.strip().isdecimal():
-        raise Failed(f"a hit count is a number, the time at which it stops a run, and not {times!r}")
+    ensure(times.strip().isdecimal(), f"a hit count is a number, the time at which it stops a run, and not {times!r}")
     return given.get("condition") or None, int(times)
 
 

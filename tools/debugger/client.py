@@ -9,7 +9,7 @@ from collections.abc import Iterator, Sequence
 from dataclasses import dataclass
 from typing import Any, NamedTuple
 
-from common.calling import Failed, running
+from common.calling import Failed, ensure, running
 
 EVERY = 10_000                   # steps between two states that are kept
 LISTED = 10_000                  # steps that are listed at once
@@ -98,8 +98,7 @@ class States:
             line = told.readline()
         except OSError:
             line = ""
-        if not line:
-            raise Failed("the process that keeps states has ended")
+        ensure(line, "the process that keeps states has ended")
         answer = json.loads(line)
         if isinstance(answer, dict) and "error" in answer:
             raise Refused(answer["error"])
@@ -199,8 +198,7 @@ def first_turn_at(process: str, image: bytes, word: tuple[int, int], seed: int) 
             file.flush()
             states.load(file.name, f"seed {seed}")
         now = states.run(states.now.end, [f"break 1 place {word[0]}:{word[1]}"])
-        if not now.stops:
-            raise Failed(f"it doesn't run in {now.step} steps by the seed {seed}")
+        ensure(now.stops, f"it doesn't run in {now.step} steps by the seed {seed}")
         return now.step
     finally:
         states.end()

@@ -19,7 +19,7 @@ from urllib.parse import unquote, urlparse
 
 from authors import asmx, why
 from common import calling, meanings
-from common.calling import Failed
+from common.calling import Failed, ensure
 from common.meanings import ASSEMBLY, FORMS
 from common.machine import instructions, script
 from . import wire
@@ -326,12 +326,10 @@ class Server:
     def on_textdocument_rename(self, given: Any) -> Any:
         path, name, _ = self.name_at(given)
         new = given["newName"]
-        if not name:
-            raise Failed("no name of this text is here")
-        if not GIVEN.fullmatch(new):
-            raise Failed(f"{new!r} can't be a name: it has letters, digits and _, at most 32, and is no register")
-        if new in definitions(path, self.files()):
-            raise Failed(f"{new} is defined already")
+        ensure(name, "no name of this text is here")
+        ensure(GIVEN.fullmatch(new), f"{new!r} can't be a name: it has letters, digits and _, at most 32, and is no "
+               "register")
+        ensure(new not in definitions(path, self.files()), f"{new} is defined already")
         changes: dict[str, list[Any]] = {}
         for one in self.found(path, name):
             changes.setdefault(self.uri(one.file), []).append(

@@ -21,7 +21,7 @@ from pathlib import Path
 from typing import IO, NamedTuple
 
 from common import calling, meanings
-from common.calling import Failed
+from common.calling import Failed, ensure
 from common.machine import image as images, runs
 from common.machine.runs import AT_FIRST, After
 from .building import SEARCHES
@@ -96,8 +96,8 @@ def read(lines: list[str]) -> Search:
     end = next((at for at, line in enumerate(lines) if END.fullmatch(line)), 0)
     found = [LINE.fullmatch(line) for line in lines[1:end]]
     again = lines[end + 1:]
-    if not end or None in found or not all(AGAIN.fullmatch(line) or AWAY.fullmatch(line) for line in again):
-        raise Failed("what the program wrote is no text of 'every'")
+    ensure(end and None not in found and all(AGAIN.fullmatch(line) or AWAY.fullmatch(line) for line in again),
+           "what the program wrote is no text of 'every'")
     return Search(lines[0], [Line(int(x[1]), x[2], x[3], x[4]) for x in found if x], lines[end], again)
 
 
