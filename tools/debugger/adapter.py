@@ -48,6 +48,12 @@ EXPRESSION = re.compile(r"\{([^{}]*)\}")                  # in a message, to be 
 MOST_LINES = 50                  # trace lines that are told after a run
 MOST_LOOKED = 20_000             # steps before the end of a run of which they are told
 
+# How the processor of a thread moves, and what a client is told where nothing else stopped it
+MOVES: dict[str, tuple[Callable[[Debugger, int], Stopped], str]] = {
+    "continue": (lambda on, cpu: on.run(on.told_stops()), "pause"),
+    "reverseContinue": (lambda on, cpu: on.back(on.told_stops()), "entry"),
+    "next": (Debugger.over, "step"), "stepIn": (Debugger.turn_of, "step"), "stepBack": (Debugger.back_turn_of, "step")}
+
 Variable = dict[str, Any]
 Arguments = dict[str, Any]
 
@@ -126,6 +132,9 @@ class Adapter:
         self.pausing -= command in PAUSING
         told = {"request_seq": message.get("seq", 0), "command": command}
         work = getattr(self, "on_" + re.sub("(?=[A-Z])", "_", command).lower(), None)
+        if command in MOVES:
+            move, reason = MOVES[command]
+            work = lambda given: self.moving(lambda: move(self.on, given.get("threadId", 1) - 1), reason)
         try:
             if work is None:
                 raise Failed((message.get("arguments") or {}).get("said", f"{command} isn't known here"))
@@ -188,9 +197,11 @@ class Adapter:
             self.on.take_way(self.launched["way"])
         return lambda: self.stopped(self.on.states.now, "entry")
 
-    def on_disconnect(self, given: Arguments) -> Any:
+    def on_pause(self, given: Arguments) -> None:
+        """What goes on has seen it already."""
+
+    def on_disconnect(self, given: Arguments) -> None:
         self.done = True
-        return None
 
     def on_terminate(self, given: Arguments) -> Any:
         return lambda: self.event("terminated")
@@ -308,18 +319,6 @@ class Adapter:
         cpu = coming.cpu if is_break or turn is None or turn.cpu is None else turn.cpu
         return (cpu or 0) + 1
 
-    def on_continue(self, given: Arguments) -> Any:
-        return self.moving(lambda: self.on.run(self.on.told_stops()), "pause")
-
-    def on_reverse_continue(self, given: Arguments) -> Any:
-        return self.moving(lambda: self.on.back(self.on.told_stops()), "entry")
-
-    def on_next(self, given: Arguments) -> Any:
-        return self.moving(lambda: self.on.over(given["threadId"] - 1))
-
-    def on_step_in(self, given: Arguments) -> Any:
-        return self.moving(lambda: self.on.turn_of(given["threadId"] - 1))
-
     def on_step_out(self, given: Arguments) -> Any:
         """On to where the parent of what runs has a turn."""
         at = self.on.states.registers()[given["threadId"] - 1]
@@ -328,12 +327,6 @@ class Adapter:
         if len(chain) > 1:
             stops.append(f"break 0 part {chain[1].name}")
         return self.moving(lambda: self.on.run(stops))
-
-    def on_step_back(self, given: Arguments) -> Any:
-        return self.moving(lambda: self.on.back_turn_of(given["threadId"] - 1))
-
-    def on_pause(self, given: Arguments) -> Any:
-        return None
 
     # What there is
 
