@@ -13,8 +13,8 @@ from common.blocks import blocks
 from exercises import alone, grade, judging, likeness
 from judge import building
 from . import cheats
-from .running import (REPOSITORY, Differs, contents, ensure, heed_interrupts, says, session, text_of, tool, write,
-                      write_program)
+from .running import (REPOSITORY, Differs, contents, ensure, heed_interrupts, says, session, text_of, tool,
+                      wait_until, write, write_program)
 
 HOSTILE = os.path.join(REPOSITORY, "class", "exercises", "hostile")
 CLASS = blocks("data/class.txt", __file__)
@@ -126,7 +126,7 @@ def stopped() -> None:
         words = [sys.executable, "-B", os.path.join(REPOSITORY, "class", "grade"), os.path.join(place, "class")]
         process = subprocess.Popen(words, env={**os.environ, "PIP_JUDGE": waits}, stdout=subprocess.PIPE,
                                    stderr=subprocess.PIPE, preexec_fn=heed_interrupts)
-        until_begun(os.path.join(place, "begun"))
+        wait_until(lambda: os.path.exists(os.path.join(place, "begun")), "class/grade doesn't judge")
         begun = time.monotonic()
         process.send_signal(signal.SIGINT)
         _, messages = process.communicate(timeout=60)
@@ -143,11 +143,3 @@ def goes_on(number: str) -> bool:
         return text_of(f"/proc/{number}/stat").rpartition(") ")[2][0] != "Z"
     except OSError:
         return False
-
-
-def until_begun(path: str) -> None:
-    for _ in range(300):
-        if os.path.exists(path):
-            return
-        time.sleep(0.1)
-    raise Differs("class/grade doesn't judge")

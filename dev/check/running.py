@@ -11,6 +11,7 @@ import signal
 import subprocess
 import sys
 import tempfile
+import time
 from collections.abc import Callable, Iterable, Iterator, Mapping, Sequence
 from concurrent.futures import ThreadPoolExecutor
 from typing import Any, TypeVar
@@ -108,6 +109,14 @@ def run(command: Sequence[str | bytes], text: bytes = b"", **streams: Any) -> Ou
     streams.setdefault("cwd", REPOSITORY)
     done = subprocess.run(command, timeout=SECONDS, **streams)
     return done.stdout, done.returncode
+
+
+def wait_until(is_so: Callable[[], object], why: str) -> None:
+    """Waits half a minute at most for something that has to come."""
+    limit = time.monotonic() + 30
+    while not is_so():
+        ensure(time.monotonic() <= limit, why)
+        time.sleep(0.05)
 
 
 def heed_interrupts() -> None:

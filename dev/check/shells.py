@@ -22,13 +22,6 @@ def expect(what: str, got: object, due: object) -> None:
     same(f"tools/shell, {what}", got, due)
 
 
-def through_a_pipe(program: str) -> None:
-    session_of_the_page(program)
-    costs_nothing(program)
-    keeps_files(program)
-    each_example(program)
-
-
 def session_of_the_page(program: str) -> None:
     page = text_of("tools/README.md").split("## shell\n")[1].split("\n## ")[0]
     shown = [line[4:] for line in page.splitlines() if line.startswith("    ")][1:]

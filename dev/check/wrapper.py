@@ -10,13 +10,12 @@ import signal
 import subprocess
 import sys
 import tempfile
-import time
 from typing import Any, IO
 
 from common import calling
 from common.blocks import blocks
-from .running import (REPOSITORY, SECONDS, Differs, ensure, heed_interrupts, needed, part, run, same, text_of, write,
-                      write_program)
+from .running import (REPOSITORY, SECONDS, Differs, ensure, heed_interrupts, needed, part, run, same, text_of,
+                      wait_until, write, write_program)
 
 Process = subprocess.Popen[bytes]
 Ended = tuple[str, str, int, int]    # output, messages and status of ./pip, and how often it built
@@ -182,10 +181,8 @@ def in_turn(program: str) -> None:
 
 def begun(checkout: Checkout, seconds: str) -> Process:
     """A ./pip whose stand-in is at work for that long."""
-    begun, limit = checkout.begin("script", SECONDS_LONG=seconds), time.monotonic() + 20
-    while not checkout.counted():
-        ensure(time.monotonic() <= limit, "./pip didn't begin to build")
-        time.sleep(0.05)
+    begun = checkout.begin("script", SECONDS_LONG=seconds)
+    wait_until(checkout.counted, "./pip didn't begin to build")
     return begun
 
 

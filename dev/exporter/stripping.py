@@ -75,7 +75,8 @@ def keep_clauses(source: Source, function: int, clauses: list[Token], edits: Edi
     if documented:
         lines = ([""] if comments else []) + shown(source, function, clauses)
     else:
-        lines = lines_of(clauses)
+        lines = [line.strip() if number == 0 else "    " + line.strip()
+                 for clause in clauses for number, line in enumerate(clause.text.split("\n"))]
     mark = "///" if documented else "//"
     place = source.line_start(source.at(head).start)
     if comments:
@@ -126,12 +127,6 @@ def comments_at(source: Source, first: int, last: int) -> list[Token]:
         found.append(source.at(first))
         first += 1
     return found
-
-
-def lines_of(clauses: list[Token]) -> list[str]:
-    """The lines of clauses; those that go on are further in."""
-    return [line.strip() if number == 0 else "    " + line.strip()
-            for clause in clauses for number, line in enumerate(clause.text.split("\n"))]
 
 
 def keep_item(source: Source, first: int, last: int, edits: Edits) -> None:

@@ -23,13 +23,10 @@ def wrong(words: list[str], data: bytes, output: bytes) -> list[str]:
     lines = output.decode("utf-8", "surrogateescape").split("\n")
     image, text = images.parted(data)
     first = int(words[2]) if words[2:] and words[2] != "after" else 0
-    judge = Judge(image, first, after_of(words), against.menu_of(text))
-    return [line for line in lines if not judge.is_right(line)]
-
-
-def after_of(words: list[str]) -> After:
     place = words.index("after") if "after" in words else len(words)
-    return After(int(words[place + 1]), int(words[place + 2])) if words[place:] else AT_FIRST
+    after = After(*map(int, words[place + 1:])) if words[place:] else AT_FIRST
+    judge = Judge(image, first, after, against.menu_of(text))
+    return [line for line in lines if not judge.is_right(line)]
 
 
 class Judge:

@@ -55,7 +55,8 @@ def slots_of(words: Sequence[str]) -> tuple[int, native.Round, int] | None:
             round = [(child, turns) for child in range(min(n, native.MOST_CHILDREN + 1))]
         else:
             n, rounds = map(script.number, map(str.encode, words[:2]))
-            round = [given_slot(word) for word in words[2:]]
+            slots = (word.encode().split(b":") for word in words[2:])
+            round = [(script.number(child), script.number(turns)) for child, turns in slots]
     except (ValueError, script.Bad):
         return None
     if not 1 <= n <= native.MOST_CHILDREN or not 1 <= len(round) <= native.MOST_SLOTS:
@@ -64,12 +65,6 @@ def slots_of(words: Sequence[str]) -> tuple[int, native.Round, int] | None:
         return None
     steps = rounds * sum(turns + 2 for _, turns in round)
     return (n, round, rounds) if max(rounds, steps) <= MOST_STEPS else None
-
-
-def given_slot(word: str) -> tuple[int, int]:
-    """The child and the turns of a slot that a word gives."""
-    child, turns = word.split(":")
-    return script.number(child.encode()), script.number(turns.encode())
 
 
 def pip(words: Sequence[str], text: bytes) -> tuple[bytes, int]:

@@ -4,7 +4,6 @@ from __future__ import annotations
 
 import os
 import re
-import tempfile
 from collections.abc import Callable
 from dataclasses import dataclass
 from typing import NamedTuple
@@ -93,10 +92,7 @@ class Debugger:
 
     def load(self, schedule: str) -> None:
         """Begins, and forgets all changes by hand."""
-        with tempfile.NamedTemporaryFile(suffix=".img") as file:
-            file.write(self.data)
-            file.flush()
-            self.states.load(file.name, schedule, self.every_step)
+        self.states.load(self.data, schedule, self.every_step)
         self.schedule, self.on_way = schedule, False
 
     # Where it is

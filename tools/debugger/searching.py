@@ -182,15 +182,12 @@ class Running:
         try:
             self.speaking: Speaking | None = Speaking(SEARCHES.path(), asked)
         except Failed as failed:
-            self.need_no_process(failed)
+            if asked.until or asked.rules:
+                raise
+            print(f"no progress is shown: {failed}", file=sys.stderr)
+            self.speaking = None
         with calling.running(program):
             self.program = subprocess.Popen([direct, *asked.words()], stdin=given, stdout=told)
-
-    def need_no_process(self, failed: Failed) -> None:
-        if self.asked.until or self.asked.rules:
-            raise failed
-        print(f"no progress is shown: {failed}", file=sys.stderr)
-        self.speaking = None
 
     def stop(self) -> None:
         self.is_stopped = True

@@ -96,15 +96,8 @@ class Terminal(cmd.Cmd):
         if meaning:
             print(f"       {meaning}")
         print(f"  next {debugger.told_coming(debugger.states.next())}")
-        line = self.source_line()
-        if line:
-            print(f"       {line}")
-
-    def source_line(self) -> str:
-        place = self.debugger.next_place()
-        if place is None:
-            return ""
-        return f"{place.file}:{place.line}: {lines_of(place.file)[place.line - 1].strip()}"
+        if place := debugger.next_place():
+            print(f"       {place.file}:{place.line}: {lines_of(place.file)[place.line - 1].strip()}")
 
     # Moves
 
@@ -452,7 +445,10 @@ def work(given: argparse.Namespace) -> int:
             with_history(lambda: loop(terminal))
         else:
             terminal.where()
-            typed_along(terminal)
+            for line in sys.stdin:                               # each is shown before its answer
+                print(f"(pip) {line.rstrip()}")
+                if line.strip() and terminal.onecmd(line.strip()):
+                    break
     finally:
         process.end()
     return 0
@@ -477,11 +473,3 @@ def listed(debugger: Debugger, steps: int, first: int, part: int | None) -> int:
         return 1
     print(f"# the program has the same {len(due)} lines")
     return 0
-
-
-def typed_along(terminal: Terminal) -> None:
-    """Words from a file or a pipe: each is shown before its answer."""
-    for line in sys.stdin:
-        print(f"(pip) {line.rstrip()}")
-        if line.strip() and terminal.onecmd(line.strip()):
-            return
