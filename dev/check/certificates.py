@@ -13,12 +13,11 @@ from pathlib import Path
 
 from certifier.certify import CHECK_PARTS
 from common import calling
-from common.calling import Failed
 from debugger.building import SEARCHES
 from reference import generate_parts, parts, plain
 from common.machine import image as images
 from . import examples
-from .running import Differs, contents, ensure, expect, needed, run, same, says
+from .running import contents, ensure, expect, needed, run, same, says
 
 PLANTED = 1000                   # certificates with something wrong, at least
 MOST_CHECKED = 60                # parts with a wrong mark, a wrong way or a wrong text that are checked of an example
@@ -64,18 +63,11 @@ def goes_on(program: str, image: bytes) -> None:
         says(program, (*words, "60"), 2, "parts of another image")
 
 
-def built() -> str:
-    needed("cargo")
-    try:
-        return SEARCHES.path()
-    except Failed as failed:
-        raise Differs(str(failed)) from None
-
-
 def cut(program: str, most: int = 1000000) -> Iterator[tuple[str, bytes, int, list[str], list[bytes]]]:
     """Each example of at most so many states whose search closes from the first moment on: the name, the image, FROM,
     the text, and some five parts."""
-    engine = built()
+    needed("cargo")
+    engine = SEARCHES.path()
     for path, name, image, _ in examples.searched(program, "every"):
         words, *told = contents(path).decode().splitlines()
         states = int(told[-1].split()[1])

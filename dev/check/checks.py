@@ -88,7 +88,7 @@ def made(name: str, check: Check | tuple[Check, ...], program: str) -> tuple[str
             part(program)
         except Skipped as skipped:
             missing[str(skipped)] = None
-        except (Differs, OSError, subprocess.SubprocessError) as found:
+        except (Differs, calling.Failed, OSError, subprocess.SubprocessError) as found:
             return told(name, "fails", f": {found}"), ""
         finally:
             signal.alarm(0)

@@ -11,11 +11,11 @@ from collections.abc import Iterable, Iterator
 from common.blocks import blocks, parted
 from exporter.tokens import braces_end
 from .counters import NO_CODE
-from .running import REPOSITORY, Differs, ensure, planted, text_of, write
+from .running import REPOSITORY, Differs, ensure, part, planted, text_of, write
 from .sources import sources
 
 LIST = os.path.join(os.path.dirname(os.path.abspath(__file__)), "public_calls.txt")
-NAME = re.compile(r"(?:(?:const|struct|enum) )?(\w+(?:::\w+)?)")
+NAME = r"(?:(?:const|struct|enum) )?(\w+(?:::\w+)?)"
 WIDTH = 112                                  # columns of a line of the list, after its indentation
 
 # What is listed: of each crate its calls and types by their names, each with its lines
@@ -47,14 +47,8 @@ def rewrite() -> None:
 
 def listed(text: str) -> Items:
     """What a list says. A line that is further in goes on with the one above it."""
-    return {(title.rstrip(":"), name_of(head)): re.sub(r"\n {4,}", " ", f"{head}\n{lines}").strip().split("\n")
+    return {(title.rstrip(":"), part(NAME, head)): re.sub(r"\n {4,}", " ", f"{head}\n{lines}").strip().split("\n")
             for title, items in parted(text).items() for head, lines in parted(items).items()}
-
-
-def name_of(head: str) -> str:
-    found = NAME.match(head)
-    assert found
-    return found[1]
 
 
 def is_type(head: str) -> bool:

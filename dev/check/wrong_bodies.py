@@ -8,7 +8,6 @@ import hashlib
 import time
 from collections.abc import Iterable
 
-from common.calling import Failed
 from edits import tried
 from edits.reading import ADMITTED, ALWAYS, GATE, TRIED, Edit, NotApplied, all_edits, edited
 from .running import REPOSITORY, Differs, Skipped, each, ensure, needed, part, planted_for, run, text_of
@@ -72,13 +71,10 @@ def drawn_edits(program: str) -> None:
 def refused(chosen: list[Edit], chain: list[str], until: float) -> list[tuple[Edit, str]]:
     """What becomes of edits of one crate, up to a time."""
     found = []
-    try:
-        for outcome in tried.outcomes(chosen, chain):
-            found.append(outcome)
-            if time.monotonic() > until:
-                break
-    except Failed as why:
-        raise Differs(str(why)) from None
+    for outcome in tried.outcomes(chosen, chain):
+        found.append(outcome)
+        if time.monotonic() > until:
+            break
     return found
 
 
