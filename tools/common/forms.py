@@ -3,7 +3,7 @@ a program is wrong at the other."""
 
 from .blocks import blocks, listed
 
-RIGHT, LAB_RIGHT, OTHERS, LAB_OTHERS = ([line.decode() for line in listed(text)]
+RIGHT, LAB_RIGHT, OTHERS, LAB_OTHERS = ([line.decode() for line in listed(text.replace(" | ", "\n"))]
                                         for text in blocks("forms.txt", __file__).values())
 WRONG, LAB_WRONG = [*OTHERS, *LAB_RIGHT], [*LAB_OTHERS, "slots 1 0" + 65 * " 0:0", *RIGHT]
 
