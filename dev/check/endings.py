@@ -148,14 +148,12 @@ def refused_memory(program: str) -> None:
             whole, count = refused(path, words, text, 0)
             expect(f"{words[0]}, with a counted memory", whole, reference.told(words, text))
             _, for_words = refused(path, ["none", *words[1:]], b"", 0)
-            if count <= for_words:
-                raise Differs(f"{words[0]} takes no memory")
+            ensure(count > for_words, f"{words[0]} takes no memory")
             for number in range(1, count + 1):
                 (output, status), _ = refused(path, words, text, number)
                 allowed = [NO_MEMORY, NO_WORDS] if number <= for_words else [NO_MEMORY]
-                if output or status not in allowed:
-                    raise Differs(f"{words[0]}, with allocation {number} of {count} refused: status {status}, "
-                                  f"{output[:80]!r}")
+                ensure(not output and status in allowed, f"{words[0]}, with allocation {number} of {count} refused: "
+                       f"status {status}, {output[:80]!r}")
 
 
 # What the commands ask of their standard streams: nothing after the end of the input, nor after a read or a write that
@@ -179,8 +177,7 @@ def asked_once(program: str) -> None:
             told = run(calling.called(program, words), text, env=settings, **streams)
             reads, late_reads, writes, late_writes = map(int, contents(counted).split())
             for late, kind in (late_reads, "reads"), (late_writes, "writes"):
-                if late:
-                    raise Differs(f"{words[0]}, {what}: {late} {kind} more after the last that there should be")
+                ensure(not late, f"{words[0]}, {what}: {late} {kind} more after the last that there should be")
             return told, reads, writes
 
         for words, text in cases():

@@ -149,8 +149,7 @@ def monitor(program: str) -> None:
     trace, status = run([program, *words], image)
     expect("the trace of the monitor", (trace, status), reference.pip(words, image))
     lines = trace.decode().splitlines()
-    if status or lines[-1] != "end 100000":
-        raise Differs(f"the monitor ends with {lines[-1]!r}, status {status}")
+    ensure(not status and lines[-1] == "end 100000", f"the monitor ends with {lines[-1]!r}, status {status}")
     for line in lines:
         if " park " in line or (" reply " in line and " reply 0 " not in line):
             raise Differs(f"the monitor has the line {line!r}")

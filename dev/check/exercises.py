@@ -11,7 +11,7 @@ import tempfile
 from common.blocks import blocks
 from exercises import exercise, judging
 from . import cheats
-from .running import REPOSITORY, SECONDS, Differs, contents, each, ensure, folders_of, run, says, session, text_of, tool
+from .running import REPOSITORY, SECONDS, contents, each, ensure, folders_of, run, says, session, text_of, tool
 
 TIMES = 3                # that each solution is judged, each time with another secret
 SEEDS = ("ada", "grace hopper", "\u00e9")
@@ -65,8 +65,7 @@ def by_seed(seed: str, name: str, is_program: bool) -> None:
         path = os.path.join(REPOSITORY, "examples", INCLUDED[name])
     text = rewritten(name, text_of(path), values)
     found = cheats.judged(name, text, os.path.splitext(path)[1], is_program, seed)
-    if not found.is_whole:
-        raise Differs(f"class/exercise {name} --seed {seed} of a solution for it: {found.lines(True)}")
+    ensure(found.is_whole, f"class/exercise {name} --seed {seed} of a solution for it: {found.lines(True)}")
 
 
 def told_by_seed(name: str, seed: str) -> dict[str, int]:

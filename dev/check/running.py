@@ -136,8 +136,7 @@ def finished(what: str, words: Sequence[str], seconds: float | None = None, **se
     done = subprocess.run(words, stdin=subprocess.DEVNULL, stdout=subprocess.PIPE, stderr=subprocess.STDOUT,
                           timeout=seconds, **settings)
     told: str = done.stdout.decode("utf-8", "replace")
-    if done.returncode:
-        raise Differs(f"{what} ends with {done.returncode}:\n{told[-4000:]}")
+    ensure(not done.returncode, f"{what} ends with {done.returncode}:\n{told[-4000:]}")
     return told
 
 
@@ -168,8 +167,7 @@ def tool(program: str | None, name: str, *words: str, text: bytes = b"", place: 
     done = subprocess.run(called(name, *words, program=program, place=place), input=text, timeout=SECONDS,
                           stderr=subprocess.PIPE, **settings)
     messages = done.stderr.decode()
-    if "Traceback" in messages:
-        raise Differs(f"{name} {' '.join(words)}: {messages[-400:]}")
+    ensure("Traceback" not in messages, f"{name} {' '.join(words)}: {messages[-400:]}")
     return (done.stdout or b"").decode("utf-8", "replace"), messages, done.returncode
 
 
@@ -231,8 +229,7 @@ def expect(what: str, got: tuple[bytes | None, int], wanted: tuple[bytes | None,
     if got == wanted:
         return
     (output, status), (text, due) = got, wanted
-    if status != due:
-        raise Differs(f"{what}: status {status}, where {due} is due; it wrote {short(output)}")
+    ensure(status == due, f"{what}: status {status}, where {due} is due; it wrote {short(output)}")
     place, ours, theirs = first_difference((text or b"").split(b"\n"), (output or b"").split(b"\n"))
     raise Differs(f"{what}: line {place + 1} of the output is {short(theirs)}, where {short(ours)} is due")
 

@@ -49,8 +49,7 @@ def costs_nothing(program: str) -> None:
             "    partition 22, at 0xffc0a000 of 13: N pages", tree[-1]])
     entered = says(program, text_of("examples/solutions/enter.pip") + "tree\n").splitlines()
     expect("what runs", ["runs on processor 0" in line for line in entered[-2:]], [False, True])
-    if not tree[-1].startswith("yes    # 3 partitions"):
-        raise Differs(f"tools/shell, audit: {tree[-1]!r}")
+    ensure(tree[-1].startswith("yes    # 3 partitions"), f"tools/shell, audit: {tree[-1]!r}")
 
 
 def keeps_files(program: str) -> None:

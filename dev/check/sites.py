@@ -122,8 +122,8 @@ def planted() -> None:
     for told in of_kinds.values():
         spoilt = json.loads(json.dumps(told))
         printed(spoilt)[-1][-1] = "another line"
-        if not wrong(spoilt, shown(spoilt, answers([spoilt])[0])):
-            raise Differs(f"the site: a planted answer of {told['where']} isn't found")
+        ensure(wrong(spoilt, shown(spoilt, answers([spoilt])[0])), f"the site: a planted answer of {told['where']} "
+               "isn't found")
     ensure(set(of_kinds) == {"script", "program", "session"}, "the site: the tutorial prints only answers of "
            f"{sorted(of_kinds)}")
 

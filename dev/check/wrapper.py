@@ -14,8 +14,8 @@ from typing import Any, IO
 
 from common import calling
 from common.blocks import blocks
-from .running import (REPOSITORY, SECONDS, Differs, ensure, heed_interrupts, needed, part, run, same, text_of,
-                      wait_until, write, write_program)
+from .running import (REPOSITORY, SECONDS, ensure, heed_interrupts, needed, part, run, same, text_of, wait_until, write,
+                      write_program)
 
 Process = subprocess.Popen[bytes]
 Ended = tuple[str, str, int, int]    # output, messages and status of ./pip, and how often it built
@@ -90,8 +90,7 @@ def expect_told(what: str, got: Ended, output: str, status: int, *told: str, bui
     """Refuses another output, status or number of builds, and messages without one of these texts."""
     expect(what, got[:1] + got[2:3], (output, status))
     expect(f"{what}, builds", got[3], got[3] if builds is None else builds)
-    if not all(text in got[1] for text in told):
-        raise Differs(f"./pip, {what}, says {got[1]!r}")
+    ensure(all(text in got[1] for text in told), f"./pip, {what}, says {got[1]!r}")
 
 
 def wrapper(program: str) -> None:
