@@ -16,7 +16,7 @@ from common.blocks import blocks, escaped, parted
 from .running import REPOSITORY, Differs, ensure, planted
 from .sources import sources
 
-COMMANDS = "pip_children", "pip_commands", "pip_search_commands", "pip_certificate_commands", "pip_lab_commands"
+COMMANDS = "pip_children", "pip_commands", "pip_search_commands", "pip_certificates", "pip_lab_commands"
 TESTS = "pip_test_"
 KERNEL = "crates/pip_mmu/src/lib.rt"
 NAMES = re.compile(r"\b(?:ledger|Blank|Brand|pip_test_\w+)\b")

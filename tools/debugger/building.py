@@ -8,6 +8,6 @@ from exporter.building import Program
 
 STATES = Program("pip_states", "the debugger's process", Path(__file__).resolve().parent / "states",
                  ("pip_cpu", "pip_dump", "pip_image", "pip_kern", "pip_mmu", "pip_native", "pip_script", "pip_switch",
-                  "pip_native_run"))
+                  "pip_native"))
 SEARCHES = Program("pip_certifier", "the searching process", Path(__file__).resolve().parent.parent / "certifier",
                    ("pip_every", "pip_image", "pip_kern", "pip_lines", "pip_script"))

@@ -1,9 +1,9 @@
 //! The program: the command on its command line, over standard input and output.
 #![tactic(auto)]
 
+use pip_command_contracts::command_line;
 use pip_commands::pip;
 use pip_io::{Gatherer, StdSink, StdSource};
-use pip_words::command_line;
 use std::process::ExitCode;
 
 fn main(rt: HostRuntime) -> ExitCode {

@@ -12,11 +12,11 @@ use Rattle.pip_model.specs.Run.{image_world, raises, schedule, step, steps}
 use Rattle.pip_model.specs.Turn.{turn, world_of}
 use Rattle.pip_model.specs.Worlds.{World, boot_world_with}
 use Rattle.pip_model.proofs.OnLists.Acts.{after-append}
-use Rattle.pip_outside.specs.Outside.{Alike, AlikeWord}
-use Rattle.pip_outside.specs.Turns.{IsOneTurn}
-use Rattle.pip_outside.proofs.Moved.{outside_depends_on_outside}
-use Rattle.pip_outside.proofs.Runners.{cpus_alike_same}
-use Rattle.pip_outside.proofs.Turning.{turns_depend_on_outside}
+use Rattle.pip_guests.specs.Outside.{Alike, AlikeWord}
+use Rattle.pip_guests.specs.Turns.{IsOneTurn}
+use Rattle.pip_guests.proofs.Moved.{outside_depends_on_outside}
+use Rattle.pip_guests.proofs.Runners.{cpus_alike_same}
+use Rattle.pip_guests.proofs.Turning.{turns_depend_on_outside}
 use Rattle.pip_any.specs.Begins.{ImagesLookAlike, StepsDependOnOutside}
 
 pub images_look_alike : ImagesLookAlike

@@ -27,11 +27,11 @@ use Rattle.pip_model.specs.Worlds.{Happened, World, done, runs_on, with_caches}
 use Rattle.pip_model.specs.declared.processors.Occupant.{Occupant}
 use Rattle.pip_model.specs.declared.turn_end.TurnEnd.{TurnEnd}
 use Rattle.pip_model.specs.declared.turn_end.TurnEnd.TheVariants as N
-use Rattle.pip_outside.specs.Outside.{Alike, AlikeOn, IsAlike, ReadsOutside}
-use Rattle.pip_outside.specs.Turns.{IsOneTurn}
-use Rattle.pip_outside.proofs.Alikes.{alike_back}
-use Rattle.pip_outside.proofs.Moved.{outside_depends_on_outside}
-use Rattle.pip_outside.proofs.Turning.{runs_alike, turns_depend_on_outside}
+use Rattle.pip_guests.specs.Outside.{Alike, AlikeOn, IsAlike, ReadsOutside}
+use Rattle.pip_guests.specs.Turns.{IsOneTurn}
+use Rattle.pip_guests.proofs.Alikes.{alike_back}
+use Rattle.pip_guests.proofs.Moved.{outside_depends_on_outside}
+use Rattle.pip_guests.proofs.Turning.{runs_alike, turns_depend_on_outside}
 use Rattle.pip_any.specs.Hostile.{DeedAnswers, HasChoice, LooksAway, FindsNoLine, RunsHostile}
 use Rattle.pip_any.specs.Hostile.{TurnKeepsToMenu, TurnStaysInside, TurnsHaveChoices}
 use Rattle.pip_any.proofs.Doing.{Does, LeavesBy, fetch_does, unseen_alike}

@@ -25,13 +25,13 @@ use Rattle.pip_model.specs.declared.effect.Effect.{Effect}
 use Rattle.pip_model.specs.declared.effect.Effect.TheVariants as F
 use Rattle.pip_model.specs.declared.processors.Occupant.{Occupant}
 use Rattle.pip_model.proofs.OnLists.Acts.{after-events}
-use Rattle.pip_outside.specs.Outside.{Alike, AlikeOn, IsAlike, ReadsOutside}
-use Rattle.pip_outside.specs.Unseen.{Answers, IsUnseen}
-use Rattle.pip_outside.proofs.Alikes.{alike_back, alike_on}
-use Rattle.pip_outside.proofs.Masks.{reach_alike}
-use Rattle.pip_outside.proofs.Moved.{outside_depends_on_outside}
-use Rattle.pip_outside.proofs.Staying.{unseen_is_unseen}
-use Rattle.pip_outside.proofs.Turning.{runs_alike}
+use Rattle.pip_guests.specs.Outside.{Alike, AlikeOn, IsAlike, ReadsOutside}
+use Rattle.pip_guests.specs.Unseen.{Answers, IsUnseen}
+use Rattle.pip_guests.proofs.Alikes.{alike_back, alike_on}
+use Rattle.pip_guests.proofs.Masks.{reach_alike}
+use Rattle.pip_guests.proofs.Moved.{outside_depends_on_outside}
+use Rattle.pip_guests.proofs.Staying.{unseen_is_unseen}
+use Rattle.pip_guests.proofs.Turning.{runs_alike}
 use Rattle.pip_any.specs.Hostile.{AllUnseen, DeedAnswers, IsNoWord, IsOnMenu, KeepsToMenu, StandsForEvent}
 
 -- ---- worlds that look alike

@@ -18,7 +18,7 @@ use Rattle.std.specs.Prelude.{is_some}
 use Rattle.pip_model.specs.Local.{Succeeded}
 use Rattle.pip_model.specs.Reach.{Faulted, Place, Reached, reach}
 use Rattle.pip_model.proofs.Locality.OneEvent.{deliver-fails}
-use Rattle.pip_outside.proofs.Leaving.{store_faults_are_traps}
+use Rattle.pip_guests.proofs.Refusing.{store_faults_are_traps}
 use Rattle.pip_model.specs.InstrRead.{instr_of}
 use Rattle.pip_model.specs.Lists.{In}
 use Rattle.pip_model.specs.Turn.{acts_after_fetch, arguments, effect_acts, fetch_acts, load_acts, outcome_of}
@@ -28,13 +28,13 @@ use Rattle.pip_model.specs.Worlds.{World, runs_on}
 use Rattle.pip_model.specs.declared.effect.Effect.{Effect}
 use Rattle.pip_model.specs.declared.effect.Effect.TheVariants as F
 use Rattle.pip_model.specs.declared.processors.Occupant.{Occupant}
-use Rattle.pip_outside.specs.Exits.{IsConfined, IsExit, IsMadeOn}
-use Rattle.pip_outside.specs.Outside.{Alike, AlikeOn}
-use Rattle.pip_outside.specs.Unseen.{ByOneOf, IsUnseen}
-use Rattle.pip_outside.proofs.Alikes.{alike_back}
-use Rattle.pip_outside.proofs.Confined.{confined_alike, confined_stays_or_exits}
-use Rattle.pip_outside.proofs.Staying.{unseen_is_unseen}
-use Rattle.pip_outside.proofs.Turning.{runs_alike}
+use Rattle.pip_guests.specs.Exits.{IsConfined, IsExit, IsMadeOn}
+use Rattle.pip_guests.specs.Outside.{Alike, AlikeOn}
+use Rattle.pip_guests.specs.Unseen.{ByOneOf, IsUnseen}
+use Rattle.pip_guests.proofs.Alikes.{alike_back}
+use Rattle.pip_guests.proofs.Confined.{confined_alike, confined_stays_or_exits}
+use Rattle.pip_guests.proofs.Staying.{unseen_is_unseen}
+use Rattle.pip_guests.proofs.Turning.{runs_alike}
 use Rattle.pip_any.specs.Hostile.{ConfinedKeepsToMenu, ExitsAreOnMenu, IsNoWord, IsOnMenu, KeepsToMenu}
 
 module _ (own : List ℕ) (look : ℕ → ℕ → ℕ → ℕ) (g : Menu) (cpu : ℕ) where

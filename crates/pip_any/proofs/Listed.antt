@@ -19,10 +19,10 @@ use Rattle.pip_model.specs.Reach.{Faulted, Place, Unmapped, reach}
 use Rattle.pip_model.specs.Switching.{node_name, reply_unless, target_node, with_zeros, yield, yield_happens}
 use Rattle.pip_model.specs.Switching.{yield_place, yield_refusals, yield_to, yielded_tree}
 use Rattle.pip_model.specs.Tree.{Node, is_place, word_of}
-use Rattle.pip_outside.specs.Outside.{Alike, AlikeCpus, AlikeTrees, AlikeWord, Lands}
-use Rattle.pip_outside.proofs.Alikes.{alike_on, alike_same, tree_alike_same}
-use Rattle.pip_outside.proofs.Seen.{lands_word}
-use Rattle.pip_outside.proofs.Runners.{cpus_alike_same}
+use Rattle.pip_guests.specs.Outside.{Alike, AlikeCpus, AlikeTrees, AlikeWord, Lands}
+use Rattle.pip_guests.proofs.Alikes.{alike_on, alike_same, tree_alike_same}
+use Rattle.pip_guests.proofs.Seen.{lands_word}
+use Rattle.pip_guests.proofs.Runners.{cpus_alike_same}
 use Rattle.pip_model.specs.Deliver.{deliver, deliver_to, nearest_taker}
 use Rattle.pip_model.specs.Events.{Event}
 use Rattle.pip_model.specs.Events as E
@@ -33,8 +33,8 @@ use Rattle.pip_model.specs.declared.call_name.CallName.{CallName}
 use Rattle.pip_model.specs.declared.call_name.CallName.TheVariants.{Yields}
 use Rattle.pip_model.specs.declared.processors.Occupant.{Occupant}
 use Rattle.pip_model.specs.declared.processors.Taker.{Taker}
-use Rattle.pip_outside.proofs.Leaving.{fetch_faults_are_traps, load_faults_are_traps, store_faults_are_traps}
-use Rattle.pip_outside.proofs.Leaving.{untaken_words_do_not_matter}
+use Rattle.pip_guests.proofs.Refusing.{fetch_faults_are_traps, load_faults_are_traps, store_faults_are_traps}
+use Rattle.pip_guests.proofs.Refusing.{untaken_words_do_not_matter}
 use Rattle.pip_any.specs.Hostile.{CallsAreOnMenu, FetchFaultsAreOnMenu, HasDeed, IsNoWord, IsOnMenu}
 use Rattle.pip_any.specs.Hostile.{LoadFaultsAreOnMenu, MasksReadNone, StandsForEvent, StoreFaultsAreOnMenu}
 use Rattle.pip_any.specs.Hostile.{StoresAreOnMenu}

@@ -23,12 +23,12 @@ use Rattle.pip_model.proofs.OnLists.Acts.{after-append, after-events, text-appen
 use Rattle.pip_any.specs.Hostile.{HasChoice, RunsHostile, TurnKeepsToMenu, TurnStaysInside}
 use Rattle.pip_any.proofs.Choosing.{nobody_hostile, turns_have_choices}
 use Rattle.pip_any.proofs.Keeping.{confined_keeps_to_menu}
-use Rattle.pip_outside.specs.Exits.{IsConfined}
-use Rattle.pip_outside.proofs.Alikes.{alike_back}
-use Rattle.pip_outside.proofs.Confined.{confined_alike}
+use Rattle.pip_guests.specs.Exits.{IsConfined}
+use Rattle.pip_guests.proofs.Alikes.{alike_back}
+use Rattle.pip_guests.proofs.Confined.{confined_alike}
 use Rattle.pip_model.specs.declared.processors.Occupant.{Occupant}
 use Rattle.pip_any.proofs.Doing.{name_alike, root_alike}
-use Rattle.pip_outside.specs.Outside.{Alike}
+use Rattle.pip_guests.specs.Outside.{Alike}
 use Rattle.pip_search.specs.Reached.{AreChoices, IsCovered}
 use Rattle.pip_search.specs.Summary.{IsTold, Witness}
 use Rattle.pip_search.specs.Systems.{after_choices}

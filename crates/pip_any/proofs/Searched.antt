@@ -11,7 +11,7 @@ use Rattle.pip_model.specs.Images.{Image}
 use Rattle.pip_model.specs.Run.{image_world, steps}
 use Rattle.pip_model.specs.Worlds.{IsSoundWorld, World}
 use Rattle.pip_model.specs.declared.processors.Occupant.{Occupant}
-use Rattle.pip_outside.specs.Outside.{Alike, seen_but}
+use Rattle.pip_guests.specs.Outside.{Alike, seen_but}
 use Rattle.pip_base.specs.Memory.{Memory}
 use Rattle.pip_command_contracts.specs.EndsBy.{Response, plainly}
 use Rattle.pip_every.specs.Away.{IsAwaySaid}

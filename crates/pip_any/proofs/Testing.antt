@@ -13,10 +13,10 @@ use Rattle.pip_any.specs.Hostile.{DeedAnswers}
 use Rattle.pip_every.specs.Away as H
 use Rattle.pip_any.specs.Tests.{TestsPass}
 use Rattle.pip_any.specs.Passing as P
-use Rattle.pip_outside.specs.Sights.{IsSight, Sight}
-use Rattle.pip_outside.specs.Sights as S
-use Rattle.pip_outside.specs.Tests as T
-use Rattle.pip_outside.proofs.Testing.{all_read, both, confined, is_but, has_none_too, not_both, off, one, reads}
+use Rattle.pip_guests.specs.Sights.{IsSight, Sight}
+use Rattle.pip_guests.specs.Sights as S
+use Rattle.pip_guests.specs.Tests as T
+use Rattle.pip_guests.proofs.Testing.{all_read, both, confined, is_but, has_none_too, not_both, off, one, reads}
 use Rattle.pip_model.specs.Acts.{events_made}
 use Rattle.pip_model.specs.Events as E
 use Rattle.pip_model.specs.Handlers.{is_reached}
@@ -26,9 +26,9 @@ use Rattle.pip_model.specs.Reach.{Faulted, Place, Reached, reach}
 use Rattle.pip_model.specs.Turn.{turn}
 use Rattle.pip_model.specs.Worlds.{IsSoundWorld, World, runs_on}
 use Rattle.pip_model.specs.declared.processors.Occupant.{Occupant}
-use Rattle.pip_outside.specs.Exits.{IsConfined}
-use Rattle.pip_outside.specs.Outside.{ReadsOutside, seen_but}
-use Rattle.pip_outside.specs.Unseen.{Answers}
+use Rattle.pip_guests.specs.Exits.{IsConfined}
+use Rattle.pip_guests.specs.Outside.{ReadsOutside, seen_but}
+use Rattle.pip_guests.specs.Unseen.{Answers}
 use Rattle.pip_any.proofs.Choosing.{nobody_hostile}
 
 module _ (own : List ℕ) (look : ℕ → ℕ → ℕ → ℕ) (s : Sight) (is : IsSight own look s) where

@@ -12,8 +12,8 @@ use Rattle.pip_command_contracts.specs.EndsBy.{Response, plainly}
 use Rattle.pip_command_contracts.specs.Planned.{lines_planned}
 use Rattle.pip_model.specs.Acts.{text_of}
 use Rattle.pip_model.specs.Images.{Image, image_word}
-use Rattle.pip_outside.specs.Outside.{Alike, seen_but}
-use Rattle.pip_outside.specs.Sights.{IsSight, Sight}
+use Rattle.pip_guests.specs.Outside.{Alike, seen_but}
+use Rattle.pip_guests.specs.Sights.{IsSight, Sight}
 use Rattle.pip_search.specs.Reached.{AreChoices}
 use Rattle.pip_search.specs.Systems.{after_choices}
 use Rattle.pip_search.specs.declared.searching.Extent.TheVariants.{Closed}

@@ -5,8 +5,8 @@ use Rattle.pip_model.specs.Acts.{after_acts}
 use Rattle.pip_model.specs.Images.{Image, image_word}
 use Rattle.pip_model.specs.Run.{image_world, raises, schedule, step, steps}
 use Rattle.pip_model.specs.Worlds.{World}
-use Rattle.pip_outside.specs.Outside.{Alike}
-use Rattle.pip_outside.specs.Turns.{TurnReadsOutside}
+use Rattle.pip_guests.specs.Outside.{Alike}
+use Rattle.pip_guests.specs.Turns.{TurnReadsOutside}
 
 -- two images of one size of whose words the same is seen begin alike
 abbrev pub ImagesLookAlike : Type 0

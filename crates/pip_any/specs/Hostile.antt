@@ -18,7 +18,7 @@ use Rattle.pip_model.specs.Lists.{In}
 use Rattle.pip_model.specs.Reach.{Fault, Faulted, Place, reach}
 use Rattle.pip_model.specs.declared.call_name.CallName.TheVariants.{Masks, Yields}
 use Rattle.pip_model.specs.declared.processors.Occupant.{Occupant}
-use Rattle.pip_outside.specs.Exits.{IsConfined, IsExit}
+use Rattle.pip_guests.specs.Exits.{IsConfined, IsExit}
 use Rattle.pip_model.specs.Events.{Event}
 use Rattle.pip_model.specs.Events as E
 use Rattle.pip_model.specs.Happens.{call_named, event, fault_number, fault_vector, what_happens, written_over}
@@ -26,9 +26,9 @@ use Rattle.pip_model.specs.Tree.{word_of}
 use Rattle.pip_model.specs.Turn.{fetch_acts, turn}
 use Rattle.pip_model.specs.Worlds.{World, done, runs_on}
 use Rattle.pip_model.specs.Switching.{target_node, yield_place, yield_refusals}
-use Rattle.pip_outside.specs.Outside.{Alike, Lands, ReadsOutside}
-use Rattle.pip_outside.specs.Turns.{TurnReadsOutside}
-use Rattle.pip_outside.specs.Unseen.{Answers, IsUnseen}
+use Rattle.pip_guests.specs.Outside.{Alike, Lands, ReadsOutside}
+use Rattle.pip_guests.specs.Turns.{TurnReadsOutside}
+use Rattle.pip_guests.specs.Unseen.{Answers, IsUnseen}
 
 -- a poll changes nothing, and a partition runs there
 abbrev pub FindsNoLine : World → ℕ → Type 0

@@ -10,8 +10,8 @@ use Rattle.pip_model.specs.Happens.{event}
 use Rattle.pip_model.specs.Lists.{In}
 use Rattle.pip_model.specs.Turn.{turn}
 use Rattle.pip_model.specs.Worlds.{IsSoundWorld, World, runs_on}
-use Rattle.pip_outside.specs.Exits.{IsConfined}
-use Rattle.pip_outside.specs.Sights.{IsSight, Sight, event_passes, events_pass, if_runs, has_no_child}
+use Rattle.pip_guests.specs.Exits.{IsConfined}
+use Rattle.pip_guests.specs.Sights.{IsSight, Sight, event_passes, events_pass, if_runs, has_no_child}
 
 -- no deed of what runs there reads what isn't seen, but for loads that are answered
 abbrev pub deeds_pass : List ℕ → Sight → World → ℕ → List May → Bool

@@ -10,8 +10,8 @@ use Rattle.pip_model.specs.Lists.{In}
 use Rattle.pip_model.specs.Run.{raises, schedule, step, steps}
 use Rattle.pip_model.specs.Turn.{turn}
 use Rattle.pip_model.specs.Worlds.{World}
-use Rattle.pip_outside.specs.Exits.{IsConfined}
-use Rattle.pip_outside.specs.Outside.{Alike}
+use Rattle.pip_guests.specs.Exits.{IsConfined}
+use Rattle.pip_guests.specs.Outside.{Alike}
 use Rattle.pip_search.specs.Reached.{AreChoices}
 use Rattle.pip_search.specs.Summary.{IsTold, Witness}
 use Rattle.pip_search.specs.Systems.{after_choices}

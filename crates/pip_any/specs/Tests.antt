@@ -5,8 +5,8 @@ use Rattle.pip_every.specs.Menus.{Menu, name_on}
 use Rattle.pip_any.specs.Hostile.{LooksAway, RunsHostile}
 use Rattle.pip_model.specs.Lists.{In}
 use Rattle.pip_model.specs.Worlds.{IsSoundWorld, World}
-use Rattle.pip_outside.specs.Exits.{IsConfined}
-use Rattle.pip_outside.specs.Outside.{seen_but}
+use Rattle.pip_guests.specs.Exits.{IsConfined}
+use Rattle.pip_guests.specs.Outside.{seen_but}
 
 -- where it is met the search looks away there, and a hostile partition that runs is confined
 pub record IsPassed (own : List ℕ) (blind : ℕ → ℕ → Bool) (g : Menu) (w : World) (cpu : ℕ) : Type 0 where

@@ -9,8 +9,8 @@ use Rattle.pip_search.specs.declared.found.Found.{Found}
 use Rattle.pip_search.specs.declared.searching.Extent.{Extent}
 use Rattle.pip_search.specs.declared.visits.Visit.{Visit}
 use Rattle.pip_search.specs.declared.ways.Run.{Run}
-use Rattle.pip_ways.specs.Told.{AreWaysOf, runs_to}
-use Rattle.pip_ways.proofs.LabelLines.{found_at, runs_here}
+use Rattle.pip_every.specs.Told.{AreWaysOf, runs_to}
+use Rattle.pip_every.proofs.LabelLines.{found_at, runs_here}
 
 before_known : (n : ℕ) (r : Run) (rs : List Run) → r.choice < n → AllByRecursion (λ r. r.choice < n) rs
     → AllByRecursion (λ r. r.choice < n) (run_before r rs)

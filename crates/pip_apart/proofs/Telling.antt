@@ -18,7 +18,7 @@ use Rattle.pip_search.specs.declared.visits.Visit.{Visit}
 use Rattle.pip_switch.specs.Standing.{StandsAs, StandsFor, State}
 use Rattle.pip_every.specs.Keys.{IsKeyOf, key_words}
 use Rattle.pip_every.proofs.OneKey.{one_key}
-use Rattle.pip_ways.specs.Told.{AreWaysOf}
+use Rattle.pip_every.specs.Told.{AreWaysOf}
 use Rattle.pip_apart.proofs.Testing.{not_true}
 use Rattle.pip_apart.specs.Alone.{NoneLeaves, guest_model, mark, turns_scope}
 use Rattle.pip_apart.specs.Found.{GuestAlone, IsFoundAt, all_stay, is_marked, stays}

@@ -11,8 +11,8 @@ use Rattle.pip_search.specs.declared.found.Found.{Found}
 use Rattle.pip_search.specs.declared.searching.Extent.{Extent}
 use Rattle.pip_search.specs.declared.visits.Visit.{Visit}
 use Rattle.pip_search.specs.declared.ways.Run.{Run}
-use Rattle.pip_ways.specs.Told.{runs_to}
-use Rattle.pip_ways.proofs.LabelLines.{found_at, runs_here, way_long}
+use Rattle.pip_every.specs.Told.{runs_to}
+use Rattle.pip_every.proofs.LabelLines.{found_at, runs_here, way_long}
 use Rattle.pip_io.proofs.Piecewise.{one_more}
 use Rattle.pip_apart.specs.Searches.{alone_of}
 use Rattle.pip_apart.specs.declared.searching.GuestSearch.{GuestSearch}

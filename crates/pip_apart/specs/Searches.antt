@@ -4,7 +4,7 @@ use Rattle.pip_base.specs.Memory.{Memory}
 use Rattle.pip_model.specs.Worlds.{World}
 use Rattle.pip_every.specs.Keys.{IsKeyOf}
 use Rattle.pip_search.specs.Ways.{AreTraced, witnesses_of}
-use Rattle.pip_ways.specs.Told.{AreWaysOf, runs_to}
+use Rattle.pip_every.specs.Told.{AreWaysOf, runs_to}
 use Rattle.pip_apart.specs.Alone.{turns_scope}
 use Rattle.pip_apart.specs.Found.{GuestAlone, Known}
 use Rattle.pip_apart.specs.declared.searching.GuestSearch.{GuestSearch}

@@ -4,7 +4,7 @@ use Rattle.std.specs.Prelude.{reverse, slice_index, Option, Some, None, codes, d
 use Rattle.pip_search.specs.Summary.{Witness}
 use Rattle.pip_search.specs.Ways.{runs_of}
 use Rattle.pip_search.specs.declared.ways.Run.{Run}
-use Rattle.pip_ways.specs.Texts.{inner, times_text, verdict_line}
+use Rattle.pip_every.specs.Texts.{inner, times_text, verdict_line}
 use Rattle.pip_apart.specs.Found.{GuestAlone, Known, hold_apart, is_marked}
 
 -- ---- one guest

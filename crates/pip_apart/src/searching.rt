@@ -16,11 +16,10 @@ use crate::guest::{Guest, MARK};
 use crate::guests::{root_on, tops};
 use crate::taken::first_taken;
 use pip_base::{Frame, Steps};
-use pip_journal::{First, Journal};
+use pip_every::{First, Journal, ways_of};
 use pip_model::ROOT;
 use pip_search::{Extent, Run, Search, explore};
 use pip_switch::Machine;
-use pip_ways::ways_of;
 use std::alloc::{AllocError, Global};
 use std::sync::ledger::Ledger;
 

@@ -12,10 +12,10 @@ use crate::searching::{GuestSearch, Knowledge, hold_apart, is_marked};
 use arrayvec::ArrayString;
 use pip_base::Frame;
 use pip_cpu::write_line;
+use pip_every::{write_shown, write_times, write_verdict};
 use pip_io::{Failed, Sink, write_all};
 use pip_script::push_decimal;
 use pip_search::Run;
-use pip_ways::{write_shown, write_times, write_verdict};
 
 /// Writes what each guest does alone, each line with its way, then what the root might do, and whether the guests hold
 /// in company (docs/FORMATS.md, "apart").

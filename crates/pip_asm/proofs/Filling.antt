@@ -9,7 +9,7 @@ use Rattle.byteorder.specs.Endian.{little_bytes}
 use Rattle.pip_model.specs.declared.assembly.AsmKind.{AsmKind}
 use Rattle.pip_model.specs.Assembly.{LineFault, at_line, and_then, word_of_cell}
 use Rattle.pip_model.specs.Images.{bytes_of}
-use Rattle.pip_asm_line.specs.Seen.{HasRoomFor, use_seen}
+use Rattle.pip_asm.specs.Seen.{HasRoomFor, use_seen}
 use Rattle.pip_asm.specs.declared.emit.Note.{Note}
 use Rattle.pip_asm.specs.declared.emit.Written.{Written}
 use Rattle.pip_asm.specs.Emitted.{Adds, AreNotes, IsEmpty, IsInBounds, cell_word, fill_in, pages_of, put, said, words}

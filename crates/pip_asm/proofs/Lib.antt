@@ -17,3 +17,12 @@ pub mod Naming
 pub mod Standing
 pub mod Keeping
 pub mod Marking
+pub mod Cutting
+pub mod Counts
+pub mod Rooms
+pub mod Mnemonics
+pub mod Joined
+pub mod Written
+pub mod Trimming
+pub mod Steps
+pub mod RowTexts

@@ -13,8 +13,8 @@ use Rattle.pip_model.specs.declared.assembly.AsmKind.{AsmKind}
 use Rattle.pip_model.specs.declared.assembly.AsmKind.TheVariants as K
 use Rattle.pip_model.specs.declared.assembly.Stage.{Stage}
 use Rattle.pip_model.specs.declared.assembly.Stage.TheVariants.{Start, Framed, Header, InPage}
-use Rattle.pip_asm_line.specs.Seen.{statement_of}
-use Rattle.pip_asm_line.specs.declared.cell.Statement.{Statement as OwnStatement}
+use Rattle.pip_asm.specs.Seen.{statement_of}
+use Rattle.pip_asm.specs.declared.line.cell.Statement.{Statement as OwnStatement}
 use Rattle.pip_asm.specs.Stages.{StandsAt}
 
 -- the stage is the one at which such a line stands

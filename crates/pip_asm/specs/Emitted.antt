@@ -9,7 +9,7 @@ use Rattle.pip_model.specs.AsmLines.{Statement}
 use Rattle.pip_model.specs.AsmWords.{Cell}
 use Rattle.pip_model.specs.Assembly.{LineFault, at_line, and_then, given, plan_words, word_of_cell}
 use Rattle.pip_model.specs.Images.{bytes_of, magic}
-use Rattle.pip_asm_line.specs.Seen.{HasRoomFor, use_seen}
+use Rattle.pip_asm.specs.Seen.{HasRoomFor, use_seen}
 use Rattle.pip_asm.specs.declared.emit.Note.{Note}
 use Rattle.pip_asm.specs.declared.emit.Written.{Written}
 

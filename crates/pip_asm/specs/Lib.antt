@@ -4,3 +4,7 @@ pub mod Reading
 pub mod Emitted
 pub mod Marks
 pub mod Stages
+pub mod Seen
+pub mod Words
+pub mod Writing
+pub mod Dues

@@ -7,13 +7,13 @@ ghost use Rattle.pip_asm.specs.Names.{IsKept, address_of_name};
 ghost use Rattle.pip_asm.specs.Reading.{Refused};
 ghost use Rattle.pip_asm.specs.Emitted.{Adds, AreNotes, IsEmpty, IsInBounds, cell_words, fill_in, first_head, put};
 ghost use Rattle.pip_asm.specs.Emitted.{said, words};
-ghost use Rattle.pip_asm_line.specs.Seen.{HasRoomFor, cell_of, use_seen};
+ghost use Rattle.pip_asm.specs.Seen.{HasRoomFor, cell_of, use_seen};
 
 use crate::head::push_head;
+use crate::line::{Cell, NameUse};
 use crate::names::Addresses;
 use crate::reading::AsmError;
 use crate::words::{push_word, push_zeros, put_word};
-use pip_asm_line::{Cell, NameUse};
 use pip_base::Plan;
 use pip_model::AsmKind;
 use std::alloc::{AllocError, Global};

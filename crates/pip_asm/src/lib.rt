@@ -9,16 +9,19 @@
 #![tactic(auto)]
 
 mod assembler;
+mod dis;
 mod emit;
 mod head;
 mod laws;
+mod line;
 mod marks;
 mod names;
 mod reading;
 mod words;
 
 pub use assembler::assemble;
+pub use dis::{DisError, Disassembler, disassemble};
 pub use laws::law_again;
-pub use pip_dis::{DisError, disassemble};
+pub use line::{Cell, NameUse, Statement, cut_line, statement};
 pub use pip_model::AsmKind;
 pub use reading::AsmError;

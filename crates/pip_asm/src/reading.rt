@@ -13,12 +13,12 @@ ghost use Rattle.pip_asm.specs.Names.{address_of_name};
 ghost use Rattle.pip_asm.specs.Reading.{IsProperState, KeepsBytes, Refused, StopIs, TakesLine, bytes_ended, head_of};
 ghost use Rattle.pip_asm.specs.Reading.{open_page, state_of};
 ghost use Rattle.pip_asm.specs.Stages.{StandsAt};
-ghost use Rattle.pip_asm_line.specs.Seen.{HasRoomFor, IsInRange, cell_of, statement_of};
+ghost use Rattle.pip_asm.specs.Seen.{HasRoomFor, IsInRange, cell_of, statement_of};
 
 use crate::emit::Written;
+use crate::line::{Cell, Statement, cut_line, statement};
 use crate::marks::{is_marked, mark, no_marks};
 use crate::names::{Addresses, first_look};
-use pip_asm_line::{Cell, Statement, cut_line, statement};
 use pip_base::{Plan, VPage};
 use pip_model::{AsmKind, Stage, root_frame};
 use std::alloc::{AllocError, Global};

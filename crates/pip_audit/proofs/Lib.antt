@@ -26,3 +26,19 @@ pub mod Differing
 pub mod TreeIn
 pub mod Judges
 pub mod Shapes
+-- Numbers and words of a line
+pub mod Digits
+pub mod Words
+-- Lines of bytes
+pub mod Splitting
+-- What a line does, and how reading goes on
+pub mod Rising
+pub mod Reading
+-- What lines say, and the text of a memory
+pub mod LineTexts
+pub mod LinesBack
+pub mod RoundTrip
+pub mod Canonical
+pub mod CanonicalRun
+pub mod FirstBad
+pub mod Unread

@@ -13,3 +13,8 @@ pub mod Law
 pub mod Given
 pub mod Comparing
 pub mod Seen
+pub mod Lines
+pub mod Core
+pub mod CoreRead
+pub mod CoreTexts
+pub mod CoreLaws

@@ -26,6 +26,7 @@ mod auditor;
 mod blocks;
 mod boot;
 mod compare;
+mod core_text;
 mod each_child;
 mod each_node;
 mod family;
@@ -44,5 +45,7 @@ mod walk;
 mod wanted;
 
 pub use auditor::{Auditor, Verdict};
+pub use core_text::{
+    CoreError, law_first_bad, law_lines, law_round_trip, read_core, read_core_from_joint, take_word,
+};
 pub use laws::law_yes;
-pub use pip_core_text::{CoreError, read_core};

@@ -10,7 +10,7 @@ use Rattle.pip_model.proofs.Trees.Ancestors.{chain-node}
 use Rattle.pip_model.proofs.Trees.Depth.{depth, depth_few, depth_some, depth_up, few_nodes, own_parent}
 use Rattle.pip_model.proofs.Trees.Lookup.{found_name, other_in, other_name, root_or_other, root_up, up_found}
 use Rattle.pip_model.proofs.Trees.Walks.{root_line}
-use Rattle.pip_outside.specs.Tests as T
+use Rattle.pip_guests.specs.Tests as T
 use Rattle.pip_switch.specs.Plain.{plain_world}
 
 -- a chain begins with its node

@@ -24,7 +24,7 @@ use Rattle.pip_model.proofs.Trees.Numbers.{page_small}
 use Rattle.pip_model.specs.Lists.{In, has}
 use Rattle.pip_model.proofs.Trees.Children.{child_back}
 use Rattle.pip_model.proofs.Trees.Lookup.{found_in, node_is}
-use Rattle.pip_outside.specs.Tests as T
+use Rattle.pip_guests.specs.Tests as T
 use Rattle.pip_switch.proofs.Targets.{child_target, target_stands}
 
 -- ---- chains

@@ -20,8 +20,8 @@ use Rattle.pip_model.specs.declared.processors.Occupant.{Occupant}
 use Rattle.pip_model.proofs.Events.Soundness.{runs_named}
 use Rattle.pip_model.proofs.Trees.Ancestry.{root_is_one}
 use Rattle.pip_model.proofs.Trees.Lookup.{name_found, root_found}
-use Rattle.pip_outside.specs.Exits.{writable_rows}
-use Rattle.pip_outside.specs.Tests as T
+use Rattle.pip_guests.specs.Exits.{writable_rows}
+use Rattle.pip_guests.specs.Tests as T
 use Rattle.pip_switch.specs.Plain.{plain_world}
 use Rattle.pip_switch.specs.Standing.{StandsAs, State}
 

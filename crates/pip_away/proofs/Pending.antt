@@ -7,7 +7,7 @@ use Rattle.pip_model.specs.Lists.{In, has}
 use Rattle.pip_model.specs.Sound.{AreLines}
 use Rattle.pip_model.specs.Tree.{Tree}
 use Rattle.pip_model.proofs.OnLists.Members.{has_in, in_has}
-use Rattle.pip_outside.specs.Tests as T
+use Rattle.pip_guests.specs.Tests as T
 
 pub not_pending : (js : List ℕ) (j : ℕ) → In j js → (b : Bool) → true ≡ (not (has js j) || b) → b ≡ true
 not_pending js j i b e = sym (e ∙ ap (λ c. not c || b) (in_has j js i))

@@ -26,8 +26,8 @@ use Rattle.pip_model.proofs.Events.Soundness.{node_in}
 use Rattle.pip_model.proofs.Frames.Stored.{reached_frame, reached_word}
 use Rattle.pip_model.proofs.OnLists.Members.{find_in}
 use Rattle.pip_model.proofs.Trees.Numbers.{at_small, reached_small}
-use Rattle.pip_outside.specs.Outside.{block_place, entry_place}
-use Rattle.pip_outside.specs.Tests as T
+use Rattle.pip_guests.specs.Outside.{block_place, entry_place}
+use Rattle.pip_guests.specs.Tests as T
 use Rattle.pip_switch.proofs.Blocking.{stores_load}
 use Rattle.pip_away.specs.Blind.{can_begin, table_word}
 use Rattle.pip_away.specs.declared.handlers.TableWord.{TableWord}

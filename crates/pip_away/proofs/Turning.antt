@@ -17,7 +17,7 @@ use Rattle.pip_model.specs.Worlds.{World, ctx_of, ctx_on, runs_on}
 use Rattle.pip_model.specs.declared.effect.Effect.{Effect}
 use Rattle.pip_model.specs.declared.effect.Effect.TheVariants as F
 use Rattle.pip_model.specs.declared.processors.Occupant.{Occupant}
-use Rattle.pip_outside.specs.Tests as T
+use Rattle.pip_guests.specs.Tests as T
 
 and_true : (b : Bool) → (b && true) ≡ b
 and_true true = refl

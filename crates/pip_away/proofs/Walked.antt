@@ -24,7 +24,7 @@ use Rattle.pip_model.proofs.OnLists.Members.{find_none}
 use Rattle.pip_model.proofs.Trees.Children.{holder_back, holder_none, in_children}
 use Rattle.pip_model.proofs.Trees.Lookup.{found_in, found_name, in_other, node_is}
 use Rattle.pip_model.proofs.Trees.Numbers.{at_small}
-use Rattle.pip_outside.specs.Exits.{writable_rows}
+use Rattle.pip_guests.specs.Exits.{writable_rows}
 use Rattle.pip_space.specs.Rows.{IsNextRow}
 use Rattle.pip_space.specs.declared.row.Row.{Row as CodeRow}
 use Rattle.pip_table.specs.NextLeaf.{start_above}

@@ -1,6 +1,6 @@
 //! The words that are left out.
 ghost use Rattle.std.specs.Prelude.{◌≡◌, ◌+◌, ◌≤◌, ◌==◌, ◌&&◌, [], not};
-ghost use Rattle.pip_outside.specs.Tests.{all_from};
+ghost use Rattle.pip_guests.specs.Tests.{all_from};
 ghost use Rattle.pip_model.specs.Lists.{has};
 ghost use Rattle.pip_away.specs.Blind as defined;
 ghost use Rattle.pip_away.specs.Blind.{blind_of, leaves_out, left_out};

@@ -5,7 +5,7 @@ ghost use Rattle.pip_model.specs.Happens.{call_named};
 ghost use Rattle.pip_model.specs.Partitions.{HasPartition, InEach};
 ghost use Rattle.pip_model.specs.Prepare.{next_in_chain};
 ghost use Rattle.pip_model.specs.Switching.{target_node};
-ghost use Rattle.pip_outside.specs.Tests as tests;
+ghost use Rattle.pip_guests.specs.Tests as tests;
 ghost use Rattle.pip_away.specs.Blind.{blind_of};
 
 use crate::blind::Blind;

@@ -4,8 +4,8 @@ ghost use Rattle.pip_kern.specs.Tested.{is_writable};
 ghost use Rattle.pip_model.specs.Partitions.{HasPartition, InEach};
 ghost use Rattle.pip_model.specs.Tree.{children};
 ghost use Rattle.pip_model.specs.Worlds.{World, runs_on};
-ghost use Rattle.pip_outside.specs.Exits.{writable_rows};
-ghost use Rattle.pip_outside.specs.Tests as tests;
+ghost use Rattle.pip_guests.specs.Exits.{writable_rows};
+ghost use Rattle.pip_guests.specs.Tests as tests;
 ghost use Rattle.pip_space.specs.Rows.{full_of};
 ghost use Rattle.pip_switch.specs.Standing.{StandsAs};
 

@@ -8,7 +8,7 @@ ghost use Rattle.pip_model.specs.Reach.{Reached};
 ghost use Rattle.pip_model.specs.Tree.{chain};
 ghost use Rattle.pip_mmu.specs.Answers.{place_answer};
 ghost use Rattle.pip_mmu.specs.Faults.{model_fault};
-ghost use Rattle.pip_outside.specs.Tests as tests;
+ghost use Rattle.pip_guests.specs.Tests as tests;
 ghost use Rattle.pip_switch.specs.Occupied.{names_on, runs_name};
 ghost use Rattle.pip_switch.specs.Plain.{plain_world};
 ghost use Rattle.pip_away.specs.Blind.{blind_of};

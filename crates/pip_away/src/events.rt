@@ -6,7 +6,7 @@ ghost use Rattle.pip_model.specs.Worlds.{World, runs_on};
 ghost use Rattle.pip_model.specs.declared.processors.Occupant.{Occupant};
 ghost use Rattle.pip_model.specs.Handlers.{is_reached};
 ghost use Rattle.pip_model.specs.Reach.{reach};
-ghost use Rattle.pip_outside.specs.Tests.{if_one_runs, reads_outside};
+ghost use Rattle.pip_guests.specs.Tests.{if_one_runs, reads_outside};
 ghost use Rattle.pip_switch.specs.Standing.{StandsAs};
 ghost use Rattle.pip_away.specs.Blind.{blind_of};
 

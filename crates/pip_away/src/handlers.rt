@@ -1,9 +1,9 @@
 //! Handlers, and where contexts are saved.
 ghost use Rattle.std.specs.Prelude.{◌≡◌, ◌<◌, ◌&&◌, ◌||◌, Some};
-ghost use Rattle.pip_outside.specs.Tests as tests;
+ghost use Rattle.pip_guests.specs.Tests as tests;
 ghost use Rattle.pip_model.specs.Handlers.{block_at, store_at};
 ghost use Rattle.pip_model.specs.Partitions.{HasPartition, InEach};
-ghost use Rattle.pip_outside.specs.Outside.{block_place, entry_place};
+ghost use Rattle.pip_guests.specs.Outside.{block_place, entry_place};
 ghost use Rattle.pip_away.specs.Blind as defined;
 ghost use Rattle.pip_away.specs.Blind.{blind_of};
 

@@ -5,7 +5,7 @@ ghost use Rattle.pip_model.specs.Lists.{has};
 ghost use Rattle.pip_model.specs.Partitions.{HasPartition};
 ghost use Rattle.pip_model.specs.Sound.{AreLines, IsSound};
 ghost use Rattle.pip_model.specs.Tree.{Tree};
-ghost use Rattle.pip_outside.specs.Tests as tests;
+ghost use Rattle.pip_guests.specs.Tests as tests;
 ghost use Rattle.pip_switch.specs.Pending.{line_bits};
 ghost use Rattle.pip_away.specs.Blind.{blind_of};
 

@@ -8,7 +8,7 @@ ghost use Rattle.pip_model.specs.Events as E;
 ghost use Rattle.pip_model.specs.Happens.{event};
 ghost use Rattle.pip_model.specs.Turn.{arguments, effect_acts, fetch_acts, turn, word_acts};
 ghost use Rattle.pip_model.specs.Worlds.{World, ctx_on, runs_on};
-ghost use Rattle.pip_outside.specs.Tests.{all_read_outside, reads_outside};
+ghost use Rattle.pip_guests.specs.Tests.{all_read_outside, reads_outside};
 ghost use Rattle.pip_switch.specs.Standing.{StandsAs};
 ghost use Rattle.pip_away.specs.Blind.{blind_of};
 

@@ -10,7 +10,7 @@ use Rattle.pip_io.specs.Histories.{writing}
 use Rattle.pip_model.specs.Images.{Image, Part, image_parts}
 use Rattle.pip_model.specs.declared.image.ImageError.{ImageError}
 use Rattle.pip_switch.specs.Standing.{StandsAs, State}
-use Rattle.pip_native_run.specs.Watching.{short_line}
+use Rattle.pip_native.specs.Watching.{short_line}
 use Rattle.pip_children.specs.Children.{Schedule, children_text, children_world}
 use Rattle.pip_command_contracts.specs.EndsBy.{Response, Due, EndsBy, IsAnswered, plainly}
 use Rattle.pip_command_contracts.specs.Faults.{image_line}

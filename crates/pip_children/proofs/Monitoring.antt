@@ -12,10 +12,10 @@ use Rattle.pip_model.specs.Images.{Image, image_word}
 use Rattle.pip_model.specs.Run.{end_line, trace_image_line, image_world}
 use Rattle.pip_model.specs.Worlds.{World}
 use Rattle.pip_switch.specs.Standing.{StandsAs, State}
-use Rattle.pip_native_run.specs.Rooms.{HasRoomForChildren}
-use Rattle.pip_native_run.specs.Watching.{addresses, built_from, ready_world, with_handlers}
-use Rattle.pip_native_run.proofs.Beginning.{room_first}
-use Rattle.pip_native_run.proofs.Entries.{handlers_as, room_kept}
+use Rattle.pip_native.specs.Rooms.{HasRoomForChildren}
+use Rattle.pip_native.specs.Watching.{addresses, built_from, ready_world, with_handlers}
+use Rattle.pip_native.proofs.Beginning.{room_first}
+use Rattle.pip_native.proofs.Entries.{handlers_as, room_kept}
 use Rattle.pip_command_contracts.specs.Loading.{Begins}
 use Rattle.pip_children.specs.Children.{Schedule, children_text, image_acts}
 use Rattle.pip_children.specs.Dues.{IsRoomy}

@@ -5,7 +5,7 @@ use Rattle.pip_model.specs.Acts.{Act, after_acts, text_of}
 use Rattle.pip_model.specs.Images.{Image}
 use Rattle.pip_model.specs.Run.{end_line, image_world, trace_image_line}
 use Rattle.pip_model.specs.Worlds.{World}
-use Rattle.pip_native_run.specs.Watching.{addresses, built_from, ready_world}
+use Rattle.pip_native.specs.Watching.{addresses, built_from, ready_world}
 
 -- how children are run
 pub record Schedule : Type 0 where

@@ -8,7 +8,7 @@ use Rattle.pip_image.specs.Reading.{EndsAtMost}
 use Rattle.pip_model.specs.Images.{Image, image, image_parts}
 use Rattle.pip_model.specs.Worlds.{World}
 use Rattle.pip_model.specs.declared.image.ImageError.{ImageError}
-use Rattle.pip_native_run.specs.Watching.{pages_taken, short_line}
+use Rattle.pip_native.specs.Watching.{pages_taken, short_line}
 use Rattle.pip_children.specs.Children.{Schedule, children_text, children_world}
 
 -- this many frames have room for n children

@@ -7,7 +7,7 @@ use Rattle.pip_io.specs.Taken.{Taken, Appends, AppendsPart, SendsPart}
 use Rattle.pip_model.specs.Images.{Image, Part, image_parts}
 use Rattle.pip_model.specs.declared.image.ImageError.{ImageError}
 use Rattle.pip_switch.specs.Standing.{StandsAs, State}
-use Rattle.pip_native_run.specs.Watching.{pages_taken}
+use Rattle.pip_native.specs.Watching.{pages_taken}
 use Rattle.pip_children.specs.Children.{Schedule, children_text, children_world}
 use Rattle.pip_command_contracts.specs.Loading.{LoadsImage}
 use Rattle.pip_children.specs.Dues.{IsRoomy, IsUnshort}

@@ -13,7 +13,7 @@ use pip_command_contracts::loading::Loaded;
 use pip_io::{Failed, Sink};
 use pip_lines::{Callback, write_end, write_image};
 use pip_model::Port;
-use pip_native_run::{build_children, set_handlers, write_children};
+use pip_native::{build_children, set_handlers, write_children};
 use std::sync::ledger::Ledger;
 
 /// Builds `n` children, makes their steps, and writes the text, and all that the sink holds.

@@ -1,6 +1,6 @@
 //! The line of a header of too few frames.
 ghost use Rattle.std.specs.Prelude.{◌≡◌, ◌≤◌};
-ghost use Rattle.pip_native_run.specs.Watching.{short_line as short_text};
+ghost use Rattle.pip_native.specs.Watching.{short_line as short_text};
 
 use arrayvec::ArrayString;
 use pip_command_contracts::push_decimal;

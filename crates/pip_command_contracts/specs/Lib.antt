@@ -7,3 +7,5 @@ pub mod Loading
 pub mod Pacing
 pub mod Commands
 pub mod Planned
+pub mod Usage
+pub mod Answered

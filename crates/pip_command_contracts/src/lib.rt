@@ -15,12 +15,16 @@
 
 pub mod begun;
 mod ended;
+mod host;
 pub mod loading;
 mod passing;
 mod planned;
 mod text;
+mod usage;
 
 pub use ended::{Ended, end_at_image, end_with};
+pub use host::command_line;
 pub use passing::pass;
 pub use planned::planned_lines;
 pub use text::push_decimal;
+pub use usage::show_usage;

@@ -1,7 +1,7 @@
 -- How `asm` ends. The streams go from a to b.
 use Rattle.std.proofs.Common.{◌≡◌, ◌≢◌, ℕ, ◌⊎◌, inl, inr, Option, None, Some, List, [], ◌∷◌, ◌++◌, Result, Ok, Err}
 use Rattle.std.proofs.Common.{refl, sym, ap, subst, arith}
-use Rattle.pip_input.specs.Whole.{TakesMore, TakesPart, TakesWhole}
+use Rattle.pip_script.specs.Whole.{TakesMore, TakesPart, TakesWhole}
 use Rattle.pip_io.specs.Causes.{RoseByOne}
 use Rattle.pip_io.specs.Taken.{Keeps}
 use Rattle.pip_io.specs.Histories.{writing}

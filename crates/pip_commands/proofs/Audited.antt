@@ -5,10 +5,10 @@ use Rattle.std.specs.Prelude.{Result, Ok, Err, IsErr, MatchOption}
 use Rattle.std.specs.Io.KnownBytes.{Consumes}
 use Rattle.std.proofs.KnownBytes.{Consumes-nil}
 use Rattle.pip_base.specs.Memory.{IsMemory, Memory}
-use Rattle.pip_core_text.specs.Core.{Whole, core_text}
-use Rattle.pip_core_text.specs.CoreRead.{BeginsText, IsBadLineOf, IsBadText, IsText, RefusesText}
-use Rattle.pip_core_text.specs.declared.text.CoreError.{CoreError}
-use Rattle.pip_core_text.proofs.CanonicalRun.{only_texts}
+use Rattle.pip_audit.specs.Core.{Whole, core_text}
+use Rattle.pip_audit.specs.CoreRead.{BeginsText, IsBadLineOf, IsBadText, IsText, RefusesText}
+use Rattle.pip_audit.specs.declared.core_text.text.CoreError.{CoreError}
+use Rattle.pip_audit.proofs.CanonicalRun.{only_texts}
 use Rattle.pip_io.proofs.Piecewise.{part_longer}
 use Rattle.pip_io.specs.Causes.{RoseByOne}
 use Rattle.pip_io.specs.Taken.{Taken, Appends, Keeps, SendsPart, Wrote}

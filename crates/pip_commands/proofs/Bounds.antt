@@ -4,7 +4,7 @@ use Rattle.std.specs.Prelude.{codes, nat_le}
 use Rattle.std.specs.Str.{bytes_eq}
 use Rattle.std.proofs.lemmas.Bool.{leb-true}
 use Rattle.pip_model.specs.Grammar.{number_of}
-use Rattle.pip_words.proofs.Within.{AreWithin, both, first_or, tested}
+use Rattle.pip_command_contracts.proofs.Within.{AreWithin, both, first_or, tested}
 use Rattle.pip_commands.specs.Words.{audit_words, command_of, counted_command, native_words, single_word, three_words}
 use Rattle.pip_commands.specs.declared.words.Command.{Command}
 use Rattle.pip_commands.specs.declared.words.Command.TheVariants as C

@@ -4,8 +4,8 @@ use Rattle.std.proofs.Common.{subst, append-nil}
 use Rattle.std.specs.Option.{IsSomeAnd}
 use Rattle.std.specs.Io.KnownBytes.{Consumes}
 use Rattle.pip_base.specs.Memory.{Memory}
-use Rattle.pip_core_text.specs.Core.{BadAt, Whole, core_text}
-use Rattle.pip_core_text.proofs.RoundTrip.{all_frames}
+use Rattle.pip_audit.specs.Core.{BadAt, Whole, core_text}
+use Rattle.pip_audit.proofs.RoundTrip.{all_frames}
 use Rattle.pip_io.specs.Taken.{Appends}
 use Rattle.pip_model.specs.Dump.{tree_text}
 use Rattle.pip_model.specs.Layout.{LaysOut, layout}
@@ -20,7 +20,7 @@ use Rattle.pip_commands.specs.AuditLaw.{CoreIsAudited, IsGiven, core_of}
 use Rattle.pip_commands.specs.AuditTexts.{yes_line}
 use Rattle.pip_command_contracts.specs.EndsBy.{Response, EndsBy, IsAnswered, IsOfAnswer, IsWithin, or_nothing, plainly}
 use Rattle.pip_command_contracts.specs.Streams.{Streams}
-use Rattle.pip_words.proofs.Answered.{answered}
+use Rattle.pip_command_contracts.proofs.Answered.{answered}
 use Rattle.pip_commands.proofs.Audited.{text_shape, text_words}
 use Rattle.pip_commands.proofs.LayoutWords.{layout_words}
 

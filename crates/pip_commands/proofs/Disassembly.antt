@@ -1,7 +1,7 @@
 -- What is due of `dis`, by what is due of its machine.
 use Rattle.std.proofs.Common.{false, ◌≡◌, ◌≢◌, ℕ, inl, inr, Option, None, Some, List, refl}
-use Rattle.pip_dis.specs.Dues.{IsFixed, parts_due}
-use Rattle.pip_drive.specs.Ends.{IsAnswer}
+use Rattle.pip_asm.specs.Dues.{IsFixed, parts_due}
+use Rattle.pip_io.specs.Ends.{IsAnswer}
 use Rattle.pip_model.specs.Images.{image_parts}
 use Rattle.pip_model.specs.declared.image.ImageError.{ImageError}
 use Rattle.pip_model.specs.declared.image.ImageError.TheVariants as F

@@ -5,8 +5,8 @@ use Rattle.pip_io.specs.Causes.{RoseByOne}
 use Rattle.pip_io.specs.Taken.{Taken, Appends}
 use Rattle.pip_io.specs.Histories.{writing}
 use Rattle.pip_io.proofs.Taken.{Appends-trans, SendsPart-after, past_sent}
-use Rattle.pip_drive.specs.Due.{DueOf}
-use Rattle.pip_drive.specs.Ends.{EndsWith, IsAnswer, IsCutShort, IsOut, Waits as TransducerWaits}
+use Rattle.pip_io.specs.Due.{DueOf}
+use Rattle.pip_io.specs.Ends.{EndsWith, IsAnswer, IsCutShort, IsOut, Waits as TransducerWaits}
 use Rattle.pip_command_contracts.specs.EndsBy.{Due as CommandDue, EndsBy, IsAnswered, IsDueLast, IsOfAnswer, IsWithin}
 use Rattle.pip_command_contracts.specs.EndsBy.{Response}
 use Rattle.pip_command_contracts.specs.Pacing.{Waits}

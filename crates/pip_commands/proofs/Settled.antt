@@ -4,10 +4,10 @@ use Rattle.std.proofs.Common.{append-nil, arith}
 use Rattle.std.specs.Io.KnownBytes as IO
 use Rattle.std.specs.Io.KnownBytes.{Consumes, prepend_known}
 use Rattle.std.proofs.KnownBytes as KB
-use Rattle.pip_input.specs.Held.{Held}
-use Rattle.pip_input.specs.Lines.{HoldsLine, still}
-use Rattle.pip_input.specs.declared.input.LineEnd.{LineEnd}
-use Rattle.pip_input.proofs.Taking.{all_read}
+use Rattle.pip_script.specs.Held.{Held}
+use Rattle.pip_script.specs.Lines.{HoldsLine, still}
+use Rattle.pip_script.specs.declared.input.LineEnd.{LineEnd}
+use Rattle.pip_script.proofs.Taking.{all_read}
 use Rattle.pip_io.specs.Causes.{RoseByOne}
 use Rattle.pip_io.specs.Taken.{Taken, Appends, Keeps, SendsPart}
 use Rattle.pip_io.specs.Histories.{Writing, writing}

@@ -3,8 +3,8 @@ use Rattle.std.proofs.Common.{◌≡◌, ℕ, ◌+◌, ◌<◌, ◌⊎◌, inl, 
 use Rattle.std.proofs.Common.{decimal, refl, sym, ap, ◌∙◌, append-nil, append_assoc, length-append, arith}
 use Rattle.std.specs.Io.KnownBytes.{IsAtEnd}
 use Rattle.std.proofs.lemmas.Bool.Decides.{nat_tests}
-use Rattle.pip_input.specs.Lines.{HasNoNewline}
-use Rattle.pip_input.proofs.LinesOf.{begins, lines_last, lines_newline}
+use Rattle.pip_script.specs.Lines.{HasNoNewline}
+use Rattle.pip_script.proofs.LinesOf.{begins, lines_last, lines_newline}
 use Rattle.pip_model.specs.Grammar.{line_meaning, lines_of}
 use Rattle.pip_model.specs.Script.{Verdict, quiet, says, bad}
 use Rattle.pip_model.specs.Text.{Transcript, bad_at, text_before, cpus_of, finished, judge, verdict_or_bad, line_text}

@@ -7,10 +7,10 @@ use Rattle.std.proofs.Common.{drop}
 use Rattle.std.specs.Io.KnownBytes as IO
 use Rattle.std.specs.Io.KnownBytes.{Consumes, IsAtEnd, prepend_known}
 use Rattle.std.proofs.lemmas.List.{length-take-le, take-append-drop, take_all}
-use Rattle.pip_input.specs.Held.{Held}
-use Rattle.pip_input.specs.Lines.{HasNoNewline, HoldsLine, HoldsPart, IsOver, still}
-use Rattle.pip_input.specs.declared.input.LineEnd.TheVariants.{Newline, Last, End as AtEnd, TooLong}
-use Rattle.pip_input.proofs.Taking.{all_read, line_split, took_line}
+use Rattle.pip_script.specs.Held.{Held}
+use Rattle.pip_script.specs.Lines.{HasNoNewline, HoldsLine, HoldsPart, IsOver, still}
+use Rattle.pip_script.specs.declared.input.LineEnd.TheVariants.{Newline, Last, End as AtEnd, TooLong}
+use Rattle.pip_script.proofs.Taking.{all_read, line_split, took_line}
 use Rattle.pip_io.specs.Causes.{RoseByOne}
 use Rattle.pip_io.specs.Taken.{Taken, Appends, AppendsPart, Keeps, SendsPart}
 use Rattle.pip_io.specs.Histories.{Writing, writing}

@@ -1,9 +1,9 @@
 -- Where a command waits: at first nothing was read.
 use Rattle.std.specs.Prelude.{◌≡◌, refl, ℕ, []}
 use Rattle.std.proofs.Common.{ap, sym, arith, inl}
-use Rattle.pip_core_text.specs.Core.{at_first}
-use Rattle.pip_core_text.specs.CoreRead.{BeginsLines}
-use Rattle.pip_core_text.proofs.FirstBad.{can_end}
+use Rattle.pip_audit.specs.Core.{at_first}
+use Rattle.pip_audit.specs.CoreRead.{BeginsLines}
+use Rattle.pip_audit.proofs.FirstBad.{can_end}
 use Rattle.pip_model.specs.DisText.{parts_lines, text_of_lines}
 use Rattle.pip_commands.specs.Dues.{asm_due, audit_due, dis_due, run_due}
 use Rattle.pip_commands.specs.Dues.{script_due}

@@ -4,9 +4,9 @@ use Rattle.std.proofs.Common.{◌≡◌, ◌≢◌, ℕ, ◌+◌, ◌≤◌, inl
 use Rattle.std.proofs.Common.{refl, sym, ap, ◌∙◌, subst, append-nil, append_assoc, length-append, arith}
 use Rattle.std.specs.Io.KnownBytes.{Consumes, prepend_known}
 use Rattle.std.proofs.KnownBytes.{Consumes-nil, Consumes-trans, prepend_known-nil}
-use Rattle.pip_core_text.specs.CoreRead.{AreWholeLines}
-use Rattle.pip_input.specs.Held.{Held}
-use Rattle.pip_input.specs.Lines.{HasNoNewline, IsLineless}
+use Rattle.pip_audit.specs.CoreRead.{AreWholeLines}
+use Rattle.pip_script.specs.Held.{Held}
+use Rattle.pip_script.specs.Lines.{HasNoNewline, IsLineless}
 use Rattle.pip_io.specs.Taken.{Taken, Appends, Keeps, SendsPart}
 use Rattle.pip_io.proofs.Taken.{Appends-kept, Appends-nil, Appends-trans, Keeps-trans, SendsPart-after}
 use Rattle.pip_model.specs.Grammar.{lines_of}

@@ -1,7 +1,7 @@
 -- What `audit` makes of what `core` writes.
 use Rattle.std.specs.Prelude.{◌≡◌, ℕ, ◌≤◌, ◌⊎◌, List, ◌++◌, Option, Some}
 use Rattle.pip_base.specs.Memory.{Memory}
-use Rattle.pip_core_text.specs.Core.{Whole, core_text}
+use Rattle.pip_audit.specs.Core.{Whole, core_text}
 use Rattle.pip_io.specs.Causes.{RoseByOne}
 use Rattle.pip_io.specs.Taken.{Appends}
 use Rattle.pip_model.specs.Audit.{IsFound}

@@ -2,7 +2,7 @@
 use Rattle.std.specs.Prelude.{ℕ}
 use Rattle.pip_children.specs.Children.{Schedule}
 use Rattle.pip_native.specs.Monitoring.{all_alive}
-use Rattle.pip_native_run.specs.Watching.{watched_steps}
+use Rattle.pip_native.specs.Watching.{watched_steps}
 
 -- for this many steps, by a monitor of which all are alive
 abbrev pub monitored : ℕ → Schedule

@@ -2,11 +2,11 @@
 use Rattle.std.specs.Prelude.{◌≡◌, ℕ, ◌^◌, ◌≤◌, ◌<◌, ◌==◌, ◌⊎◌, false, List, [], ◌∷◌, ◌++◌, length}
 use Rattle.std.specs.Prelude.{Option, Some, None, Result, Ok, Err, option_map}
 use Rattle.std.specs.Io.KnownBytes.{IsAtEnd}
-use Rattle.pip_core_text.specs.Core.{BadAt, CoreText, Whole, core_text}
-use Rattle.pip_core_text.specs.CoreRead.{AreWholeLines, BeginsLines}
-use Rattle.pip_dis.specs.Dues.{IsAtPart}
+use Rattle.pip_audit.specs.Core.{BadAt, CoreText, Whole, core_text}
+use Rattle.pip_audit.specs.CoreRead.{AreWholeLines, BeginsLines}
+use Rattle.pip_asm.specs.Dues.{IsAtPart}
 use Rattle.pip_image.specs.Reading.{EndsAtMost}
-use Rattle.pip_input.specs.Lines.{HasNoNewline}
+use Rattle.pip_script.specs.Lines.{HasNoNewline}
 use Rattle.pip_model.specs.Assembly.{LineFault, assembly}
 use Rattle.pip_model.specs.Audit.{Finding, Lays, Unread, Unsound, Differs, finding}
 use Rattle.pip_model.specs.DisText.{dis_text}
@@ -21,9 +21,9 @@ use Rattle.pip_model.specs.Tree.{Tree}
 use Rattle.pip_model.specs.Worlds.{World}
 use Rattle.pip_model.specs.declared.image.ImageError.{ImageError}
 use Rattle.pip_model.specs.declared.script.ScriptLine.TheVariants.{Boot}
-use Rattle.pip_native_run.specs.Watching.{native_text, native_world}
+use Rattle.pip_native.specs.Watching.{native_text, native_world}
 use Rattle.pip_children.specs.Dues.{children_due}
-use Rattle.pip_words.specs.Usage.{unknown_due}
+use Rattle.pip_command_contracts.specs.Usage.{unknown_due}
 use Rattle.pip_commands.specs.AuditTexts.{bad_line, differs_line, unread_line, unsound_line, yes_line}
 use Rattle.pip_command_contracts.specs.EndsBy.{Due, Response, plainly}
 use Rattle.pip_commands.specs.Faults.{asm_line}

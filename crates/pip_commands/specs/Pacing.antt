@@ -1,7 +1,7 @@
 -- Where a command may read more of its input.
 use Rattle.std.specs.Prelude.{◌≡◌, []}
-use Rattle.pip_input.specs.Held.{Held}
-use Rattle.pip_input.specs.Lines.{IsLineless}
+use Rattle.pip_script.specs.Held.{Held}
+use Rattle.pip_script.specs.Lines.{IsLineless}
 use Rattle.pip_io.specs.Pacing.{MayRead}
 use Rattle.pip_io.specs.Taken.{Taken, Keeps}
 use Rattle.pip_io.specs.Histories.{writing}

@@ -3,10 +3,10 @@ use Rattle.std.specs.Prelude.{◌≡◌, ◌≢◌, ℕ, ◌+◌, ◌≤◌, ◌
 use Rattle.std.specs.Prelude.{Err, codes, decimal}
 use Rattle.std.specs.Io.KnownBytes as IO
 use Rattle.std.specs.Io.KnownBytes.{Consumes, IsAtEnd, prepend_known}
-use Rattle.pip_core_text.specs.CoreRead.{AreWholeLines}
-use Rattle.pip_input.specs.Held.{Held}
-use Rattle.pip_input.specs.Lines.{HasNoNewline, HoldsLine, HoldsPart, still}
-use Rattle.pip_input.specs.declared.input.LineEnd.TheVariants.{Newline}
+use Rattle.pip_audit.specs.CoreRead.{AreWholeLines}
+use Rattle.pip_script.specs.Held.{Held}
+use Rattle.pip_script.specs.Lines.{HasNoNewline, HoldsLine, HoldsPart, still}
+use Rattle.pip_script.specs.declared.input.LineEnd.TheVariants.{Newline}
 use Rattle.pip_io.specs.Causes.{RoseByOne}
 use Rattle.pip_io.specs.Moments.{NoneFailed}
 use Rattle.pip_io.specs.Taken.{Appends, AppendsPart, Keeps, SendsPart}

@@ -1,5 +1,5 @@
 //! Laws of the commands. They compute nothing: what each says is its contract.
-ghost use Rattle.pip_words.specs.Answered.{AreInputsAnswered};
+ghost use Rattle.pip_command_contracts.specs.Answered.{AreInputsAnswered};
 ghost use Rattle.pip_commands.specs.AuditLaw.{CoreIsAudited};
 ghost use Rattle.pip_commands.specs.Dues.{due_of};
 

@@ -12,9 +12,8 @@ use crate::commands::run::{core_dump, run, tree};
 use crate::commands::script::script;
 use crate::commands::soak::soak;
 use crate::words::{Command, read_words};
-use pip_command_contracts::Ended;
+use pip_command_contracts::{Ended, show_usage};
 use pip_io::{Sink, Source};
-use pip_words::show_usage;
 use std::alloc::Global;
 
 const USAGE: &[u8] =

@@ -6,8 +6,8 @@ use Rattle.std.proofs.Math.Logic.{∥∥₁_elim}
 use Rattle.std.proofs.Math.Nat.{ℕ_set}
 use Rattle.std.proofs.lemmas.List.{take_rest}
 use Rattle.pip_base.specs.Memory.{IsMemory, Memory}
-use Rattle.pip_journal.specs.Changes.{changes}
-use Rattle.pip_journal.proofs.Mixed.{changes_written}
+use Rattle.pip_every.specs.Changes.{changes}
+use Rattle.pip_every.proofs.Mixed.{changes_written}
 use Rattle.pip_model.specs.Cache.{all_emptied}
 use Rattle.pip_model.specs.Worlds.{World}
 use Rattle.pip_model.specs.declared.processors.Occupant.{Occupant}

@@ -13,3 +13,13 @@ pub mod Saying
 pub mod OnStates
 pub mod Seeing
 pub mod Passing
+pub mod LabelLines
+pub mod Mixed
+pub mod Closing
+pub mod SameJournals
+pub mod Writing
+pub mod Restoring
+mod Shut
+pub mod From
+pub mod Adding
+pub mod Places

@@ -14,7 +14,7 @@ use Rattle.pip_model.specs.Events as E
 use Rattle.pip_model.specs.Happens.{event}
 use Rattle.pip_model.specs.Worlds.{World, runs_on}
 use Rattle.pip_model.proofs.Trees.Ancestry.{root_is_one}
-use Rattle.pip_outside.specs.Tests.{if_one_runs, is_confined, reads_outside}
+use Rattle.pip_guests.specs.Tests.{if_one_runs, is_confined, reads_outside}
 use Rattle.pip_switch.specs.Standing.{StandsAs, State}
 use Rattle.pip_every.specs.Away.{deed_answers, deeds_read_outside, hostile_looks_away, is_vain}
 

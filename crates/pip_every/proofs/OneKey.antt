@@ -3,7 +3,7 @@ use Rattle.std.proofs.Common.{◌≡◌, ℕ, suc, ◌<◌, List, [], ◌∷◌,
 use Rattle.std.proofs.Common.{slice_index, refl, sym, ap₂, ◌∙◌, arith, append_assoc}
 use Rattle.pip_base.specs.Memory.{Memory}
 use Rattle.pip_base.proofs.Memory.{same_words}
-use Rattle.pip_journal.specs.Changes.{changes}
+use Rattle.pip_every.specs.Changes.{changes}
 use Rattle.pip_model.specs.Layout.{HasSameLayout, LaysOut}
 use Rattle.pip_model.specs.Tree.{Tree}
 use Rattle.pip_model.specs.declared.processors.Occupant.{Occupant}

@@ -1,7 +1,7 @@
 -- What a search says of a moment doesn't depend on the memory with which its keys compare.
 use Rattle.std.proofs.Common.{◌≡◌, ℕ, List, length, refl, sym}
 use Rattle.pip_base.specs.Memory.{IsMemory, Memory}
-use Rattle.pip_journal.specs.Changes.{changes}
+use Rattle.pip_every.specs.Changes.{changes}
 use Rattle.pip_search.specs.Summary.{IsTold, Witness}
 use Rattle.pip_search.specs.declared.searching.Extent.{Extent}
 use Rattle.pip_every.specs.Keys.{IsKeyOf, key_words}

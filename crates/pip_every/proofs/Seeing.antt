@@ -5,7 +5,7 @@ use Rattle.pip_model.specs.Events as E
 use Rattle.pip_model.specs.Events.{Event}
 use Rattle.pip_model.specs.Turn.{turn, world_of}
 use Rattle.pip_model.specs.Worlds.{World, runs_on}
-use Rattle.pip_outside.specs.Tests.{all_read_outside, if_one_runs, is_confined, reads_outside}
+use Rattle.pip_guests.specs.Tests.{all_read_outside, if_one_runs, is_confined, reads_outside}
 use Rattle.pip_every.specs.Away.{deed_answers, deeds_read_outside, hostile_looks_away, is_vain, looks_away}
 use Rattle.pip_every.specs.Menus.{Menu, deed_event, is_hostile, is_its, name_on}
 use Rattle.pip_every.specs.declared.menus.Deed.{Deed}

@@ -21,7 +21,7 @@ use Rattle.pip_model.specs.Happens.{event}
 use Rattle.pip_model.specs.Reach.{reach}
 use Rattle.pip_model.specs.Turn.{turn}
 use Rattle.pip_model.specs.Worlds.{World, runs_on}
-use Rattle.pip_outside.specs.Tests.{all_read_outside, if_one_runs, is_confined, reads_outside}
+use Rattle.pip_guests.specs.Tests.{all_read_outside, if_one_runs, is_confined, reads_outside}
 use Rattle.pip_search.specs.Orders.{IsNoLater}
 use Rattle.pip_search.specs.Reached.{AreChoices}
 use Rattle.pip_search.specs.Systems.{after_choices}

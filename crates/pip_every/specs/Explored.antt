@@ -1,5 +1,5 @@
 -- What an explorer searches.
-use Rattle.pip_journal.specs.declared.first.First.{Ghosts}
+use Rattle.pip_every.specs.declared.journals.first.First.{Ghosts}
 use Rattle.pip_every.specs.Choosing.{machine_menu}
 use Rattle.pip_every.specs.Menus.{Menu}
 use Rattle.pip_every.specs.declared.explorer.Explorer.{Explorer}

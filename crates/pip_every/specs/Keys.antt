@@ -2,7 +2,7 @@
 use Rattle.std.specs.Prelude.{◌≡◌, ℕ, zero, suc, ◌+◌, List, [], ◌∷◌, ◌++◌, length, take}
 use Rattle.std.specs.Prelude.{Option, Some, None}
 use Rattle.pip_base.specs.Memory.{Memory}
-use Rattle.pip_journal.specs.Changes.{changes}
+use Rattle.pip_every.specs.Changes.{changes}
 use Rattle.pip_model.specs.declared.processors.Occupant.{Occupant}
 use Rattle.pip_search.specs.Systems.{Model}
 use Rattle.pip_switch.specs.Rewinding.{rewritten}

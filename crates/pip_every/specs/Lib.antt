@@ -10,3 +10,8 @@ pub mod Comes
 pub mod Away
 pub mod Passing
 pub mod Explained
+pub mod Texts
+pub mod Told
+pub mod Tracks
+pub mod Opening
+pub mod Changes

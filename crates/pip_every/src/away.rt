@@ -14,8 +14,8 @@ ghost use Rattle.pip_every.specs.Moments.{Moment};
 ghost use Rattle.pip_every.specs.Passing.{FirstLooks, LooksFirst};
 
 use crate::explorer::Explorer;
+use crate::journals::First;
 use pip_away::Blind;
-use pip_journal::First;
 use pip_search::{Extent, Run, Search, runs_to};
 use std::alloc::{AllocError, Global};
 use std::sync::ledger::Ledger;

@@ -16,6 +16,7 @@ ghost use Rattle.pip_every.specs.Moments as moments;
 ghost use Rattle.pip_every.specs.Moments.{Moment};
 
 use crate::deeds::act_from_menu;
+use crate::journals::{First, Journal};
 use crate::label::Label;
 use crate::looking::looks_away;
 use crate::menus::{Deed, May, is_hostile, is_its};
@@ -24,7 +25,6 @@ use crate::seed::seed_of;
 use pip_away::Blind;
 use pip_base::{Outcome, Steps};
 use pip_cpu::{TurnEnd, turn};
-use pip_journal::{First, Journal};
 use pip_model::Port;
 use pip_search::System;
 use pip_switch::Machine;

@@ -4,11 +4,11 @@ ghost use Rattle.pip_base.specs.Memory.{IsMemory};
 ghost use Rattle.pip_base.specs.Opening.{CanOpen};
 ghost use Rattle.pip_model.specs.Booted.{HasBooted};
 
+use crate::journals::copied;
 use crate::label::Label;
 use pip_base::{Frame, Steps, WORDS};
 use pip_cpu::turn;
 use pip_frames::{Frames, RawFrames};
-use pip_journal::copied;
 use pip_model::Port;
 use pip_switch::Machine;
 use std::alloc::{AllocError, Global};

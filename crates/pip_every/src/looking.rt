@@ -3,7 +3,7 @@ ghost use Rattle.std.specs.Prelude.{◌≡◌, ◌<◌, ◌||◌, ℕ, not, leng
 ghost use Rattle.pip_every.specs.Menus.{Menu, deed_event, is_its, name_on};
 ghost use Rattle.pip_model.specs.Events as E;
 ghost use Rattle.pip_model.specs.Worlds.{World};
-ghost use Rattle.pip_outside.specs.Tests.{reads_outside};
+ghost use Rattle.pip_guests.specs.Tests.{reads_outside};
 ghost use Rattle.pip_switch.specs.Standing.{StandsAs};
 ghost use Rattle.pip_away.specs.Blind.{blind_of};
 ghost use Rattle.pip_every.specs.Away as tests;

@@ -11,9 +11,9 @@ ghost use Rattle.pip_every.specs.Keys.{IsKeyOf, model_of};
 ghost use Rattle.pip_every.specs.Moments.{first_moment};
 
 use crate::explorer::Explorer;
+use crate::journals::{First, Journal};
 use pip_base::Steps;
 use pip_frames::{Frames, RawFrames};
-use pip_journal::{First, Journal};
 use pip_search::{Part, check_part};
 use pip_switch::Machine;
 use std::alloc::{AllocError, Global};

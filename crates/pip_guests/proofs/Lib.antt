@@ -26,3 +26,17 @@ pub mod AncestorPremises
 mod TurnPremises
 mod LinesRaised
 pub mod Machines
+pub mod Seen
+pub mod Runners
+pub mod Masks
+pub mod Answered
+pub mod Moved
+pub mod Alikes
+pub mod Staying
+pub mod Turning
+pub mod Refusing
+pub mod Confined
+pub mod Few
+pub mod Nothing
+pub mod Testing
+pub mod Entries

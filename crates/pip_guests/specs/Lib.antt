@@ -4,3 +4,10 @@ pub mod Ancestors
 pub mod Programs
 pub mod Limits
 pub mod Machines
+pub mod Outside
+pub mod Unseen
+pub mod Turns
+pub mod Exits
+pub mod Sights
+pub mod Tests
+pub mod Entries

@@ -2,6 +2,8 @@
 //! what each says is its contract.
 #![tactic(auto)]
 
+mod outside;
+
 ghost use Rattle.pip_guests.specs.Ancestors.{AncestorsLeaveGuestsAlone, AncestorsOnMachines};
 ghost use Rattle.pip_guests.specs.Guests.{EventsAreKnown, GuestsAreLeftAlike, GuestsDependOnThemselves};
 ghost use Rattle.pip_guests.specs.Guests.{GuestsLeaveOthersAlone, GuestsRunAsAlone, IsInside};
@@ -19,6 +21,8 @@ ghost use Rattle.pip_guests.specs.Programs.{LinesDoNotMatter, OtherTurnsDoNotMat
 ghost use Rattle.pip_guests.specs.Programs.{ProgramsRunAsAlone, QuietPolls, RunsAreSteps, RunsGoOn, StepsAreItems};
 ghost use Rattle.pip_guests.specs.Programs.{StepsDependOnInputs, StepsDoNotMatter};
 ghost use Rattle.pip_guests.specs.Programs.{TurnsDependOnGuests, TurnsLeaveAlike};
+
+pub use outside::{law_exits, law_outside};
 
 /// What a guest leaves alone, and what it depends on, in the model.
 pub fn law_guests()

@@ -8,3 +8,8 @@ pub mod Pacing
 pub mod Newlines
 pub mod Moments
 pub mod Writes
+pub mod Due
+pub mod Steps
+pub mod Ends
+pub mod Texts
+pub mod Windows

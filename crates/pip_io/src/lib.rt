@@ -14,16 +14,23 @@
 #![tactic(auto)]
 
 mod calls;
+mod driver;
 mod gather;
 mod joint;
 mod memory;
 mod newline;
 mod streams;
+mod text;
 mod traits;
+mod transducer;
+mod window;
 
+pub use driver::{FailedStream, drive};
 pub use gather::Gatherer;
 pub use joint::Joint;
 pub use memory::{Discard, MemSink, MemSource, SureSource};
 pub use newline::find_newline;
 pub use streams::{StdSink, StdSource};
+pub use text::Text;
 pub use traits::{Failed, Sink, Source, write_all, write_out};
+pub use transducer::{Step, Transducer};

@@ -1,9 +1,9 @@
 //! The program of the lab: the command on its command line, over standard input and output.
 #![tactic(auto)]
 
+use pip_command_contracts::command_line;
 use pip_io::{Gatherer, StdSink, StdSource};
 use pip_lab_commands::lab;
-use pip_words::command_line;
 use std::process::ExitCode;
 
 fn main(rt: HostRuntime) -> ExitCode {

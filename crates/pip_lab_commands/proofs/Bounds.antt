@@ -9,7 +9,7 @@ use Rattle.pip_model.specs.Grammar.{number_of}
 use Rattle.pip_slots.specs.Images.{in_turn, round_steps}
 use Rattle.pip_slots.specs.declared.time_slot.RoundSlot.{RoundSlot}
 use Rattle.pip_slots.proofs.Rounds.{turn_children}
-use Rattle.pip_words.proofs.Within.{AreWithin, both, first_or, tested}
+use Rattle.pip_command_contracts.proofs.Within.{AreWithin, both, first_or, tested}
 use Rattle.pip_lab_commands.specs.Words.{after_command, apart_words, as_round, lab_command_of, cons_slot, first_command}
 use Rattle.pip_lab_commands.specs.Words.{fixed_command, four_words, from_first, given_command, given_slots, is_depth}
 use Rattle.pip_lab_commands.specs.Words.{later_command, numbered_slot, part_words, search_words, lab_single_word}

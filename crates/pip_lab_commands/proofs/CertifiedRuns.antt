@@ -1,10 +1,10 @@
 -- What a certificate says of runs: their lines are shown by choices, and these were merged.
 use Rattle.std.proofs.Common.{◌≡◌, Some, subst, sym, slice_get}
-use Rattle.pip_certificate_commands.proofs.CertificatesMerged.{certificates_say}
-use Rattle.pip_certificate_commands.specs.PartAbout.{words_with}
+use Rattle.pip_certificates.proofs.CertificatesMerged.{certificates_say}
+use Rattle.pip_certificates.specs.PartAbout.{words_with}
 use Rattle.pip_command_contracts.proofs.Accepted.{accepted}
 use Rattle.pip_model.specs.Acts.{text_of}
-use Rattle.pip_certificate_parts.specs.MergeLaw.{ToldPart}
+use Rattle.pip_certificates.specs.MergeLaw.{ToldPart}
 use Rattle.pip_search.proofs.Picking.{at_map}
 use Rattle.pip_search.specs.Certificates.{Portion}
 use Rattle.pip_search_commands.proofs.RunsChosen.{lines_known, runs_are_choices}

@@ -16,7 +16,7 @@ use Rattle.pip_slots.specs.Slots.{after_slot, closing, next_step, opening, plan_
 use Rattle.pip_slots.specs.Slots.{slot_acts, slot_entry, slot_texts, slot_turn, slot_turns}
 use Rattle.pip_slots.proofs.Images.{images_separate_slots, plan_words}
 use Rattle.pip_slots.proofs.Texts.{texts_count, texts_joined}
-use Rattle.pip_native_run.specs.Watching.{addresses, built_from, ready_world, root_runs}
+use Rattle.pip_native.specs.Watching.{addresses, built_from, ready_world, root_runs}
 use Rattle.pip_children.specs.Dues.{IsChildrenAnswer, IsRoomy}
 use Rattle.pip_lab_commands.specs.Dues.{slots_due}
 use Rattle.pip_command_contracts.specs.EndsBy.{Response}

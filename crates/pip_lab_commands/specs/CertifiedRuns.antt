@@ -5,18 +5,18 @@ use Rattle.std.specs.List.Sorted.{IsPermutation}
 use Rattle.pip_asm.specs.Laws.{AreBytes}
 use Rattle.pip_base.specs.Memory.{Memory}
 use Rattle.pip_base.specs.declared.types.Plan.{Plan}
-use Rattle.pip_certificate_commands.specs.CertificateLaw.{AreParts}
-use Rattle.pip_certificate_commands.specs.PartDues.{lines_text}
-use Rattle.pip_certificate_commands.specs.declared.reading.BaseWord.{BaseWord}
+use Rattle.pip_certificates.specs.CertificateLaw.{AreParts}
+use Rattle.pip_certificates.specs.PartDues.{lines_text}
+use Rattle.pip_certificates.specs.declared.reading.BaseWord.{BaseWord}
 use Rattle.pip_model.specs.Acts.{text_of}
 use Rattle.pip_model.specs.Booted.{IsBooted}
 use Rattle.pip_model.specs.Grammar.{lines_of}
 use Rattle.pip_model.specs.Images.{Image, image, image_word}
-use Rattle.pip_certificate_parts.specs.MergeLaw.{ToldPart}
-use Rattle.pip_certificate_parts.specs.Merges.{Merging, is_whole, merge_lines, no_merging}
+use Rattle.pip_certificates.specs.MergeLaw.{ToldPart}
+use Rattle.pip_certificates.specs.Merges.{Merging, is_whole, merge_lines, no_merging}
 use Rattle.pip_command_contracts.specs.Planned.{lines_planned}
 use Rattle.pip_search_commands.specs.RunLaw.{AreLinesOf, ArePlansFrom, steps_from}
-use Rattle.pip_ways.specs.Texts.{inner}
+use Rattle.pip_every.specs.Texts.{inner}
 use Rattle.pip_lab_commands.specs.Words.{from_first}
 
 -- a label was merged

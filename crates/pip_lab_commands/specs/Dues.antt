@@ -1,15 +1,15 @@
 -- What is due of each command of the lab, and of words of no form.
 use Rattle.std.specs.Prelude.{ℕ, Option, Some, None}
 use Rattle.arrayvec.specs.ArrayVec.{ArrayVec}
-use Rattle.pip_certificate_commands.specs.MergeDues.{merge_due}
-use Rattle.pip_certificate_commands.specs.PartDues.{part_due}
+use Rattle.pip_certificates.specs.MergeDues.{merge_due}
+use Rattle.pip_certificates.specs.PartDues.{part_due}
 use Rattle.pip_children.specs.Dues.{children_due}
 use Rattle.pip_command_contracts.specs.EndsBy.{Due}
 use Rattle.pip_model.specs.Text.{line_text}
 use Rattle.pip_search_commands.specs.SearchDues.{against_due, apart_due, every_due}
 use Rattle.pip_slots.specs.Images.{slots_text, slots_world}
 use Rattle.pip_slots.specs.declared.time_slot.RoundSlot.{RoundSlot}
-use Rattle.pip_words.specs.Usage.{unknown_due}
+use Rattle.pip_command_contracts.specs.Usage.{unknown_due}
 use Rattle.pip_lab_commands.specs.Words.{lab_usage}
 use Rattle.pip_lab_commands.specs.declared.words.LabCommand.{LabCommand}
 use Rattle.pip_lab_commands.specs.declared.words.LabCommand.TheVariants as C

@@ -10,7 +10,7 @@ use Rattle.pip_slots.specs.Images.{AgreeOnChild, round_plan, round_steps}
 use Rattle.pip_slots.specs.Slots.{plan_steps}
 use Rattle.pip_slots.specs.declared.time_slot.RoundSlot.{RoundSlot}
 use Rattle.pip_slots.specs.declared.time_slot.TimeSlot.{TimeSlot}
-use Rattle.pip_native_run.specs.Watching.{addresses, built_from, fresh}
+use Rattle.pip_native.specs.Watching.{addresses, built_from, fresh}
 use Rattle.pip_lab_commands.specs.Dues.{slots_due}
 use Rattle.pip_command_contracts.specs.EndsBy.{Response}
 use Rattle.pip_search_commands.specs.RunLaw.{AreLinesOf}

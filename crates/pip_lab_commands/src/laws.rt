@@ -1,5 +1,5 @@
 //! Laws of the commands. They compute nothing: what each says is its contract.
-ghost use Rattle.pip_words.specs.Answered.{AreInputsAnswered};
+ghost use Rattle.pip_command_contracts.specs.Answered.{AreInputsAnswered};
 ghost use Rattle.pip_lab_commands.specs.CertifiedRuns.{CertificatesNameRuns};
 ghost use Rattle.pip_lab_commands.specs.Dues.{lab_due_of};
 ghost use Rattle.pip_lab_commands.specs.SlotsLaw.{ChildrenAreSeparate};

@@ -18,7 +18,7 @@ mod words;
 
 pub use commands::slots::slots;
 pub use laws::{law_certified_runs, law_inputs_answered, law_slots_apart};
-pub use pip_certificate_commands::{law_certified, merge, part};
+pub use pip_certificates::{law_certified, merge, part};
 pub use pip_command_contracts::Ended;
 pub use pip_search_commands::{
     Start, against, apart, every, law_against, law_apart, law_every, law_every_runs,

@@ -6,11 +6,10 @@ ghost use Rattle.pip_command_contracts.specs.Commands.{Fulfils, MayStart};
 
 use crate::commands::slots::slots;
 use crate::words::{LabCommand, read_words};
-use pip_certificate_commands::{merge, part};
-use pip_command_contracts::Ended;
+use pip_certificates::{merge, part};
+use pip_command_contracts::{Ended, show_usage};
 use pip_io::{Sink, Source};
 use pip_search_commands::{against, apart, every};
-use pip_words::show_usage;
 use std::alloc::Global;
 
 const LAB_USAGE: &[u8] =

@@ -1,2 +1,10 @@
 pub mod Following
 pub mod Yielding
+pub mod Open
+pub mod Entries
+pub mod Pools
+pub mod Building
+pub mod Watched
+pub mod ChildLines
+pub mod Steps
+pub mod Beginning

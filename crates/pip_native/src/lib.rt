@@ -8,14 +8,20 @@
 //! `visit_acts`). No call takes memory.
 #![tactic(auto)]
 
+mod children;
 mod chooser;
 mod deciding;
 mod decision;
+mod lines;
 mod monitor;
 mod order;
+mod watching;
 
+pub use children::{build_children, set_handlers};
 pub use chooser::Chooser;
 pub use deciding::decide;
 pub use decision::Decision;
+pub use lines::write_children;
 pub use monitor::Monitor;
 pub use order::next_child;
+pub use watching::watch_once;

@@ -11,14 +11,18 @@
 mod answers;
 mod forms;
 mod generator;
+mod input;
 mod lines;
 mod numbers;
 mod text;
+mod whole;
 
 pub use generator::Generator;
+pub use input::{Input, LineEnd};
 pub use lines::{answer_line, is_blank, read_line, read_phrase, split_word};
 pub use numbers::read_number;
 pub use pip_model::{Said, ScriptLine};
 pub use text::{
     outcome_text, push_decimal, push_digits, push_said, push_word, reply_line, word_line, word_text,
 };
+pub use whole::{ReadError, read_whole};

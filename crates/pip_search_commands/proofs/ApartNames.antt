@@ -14,7 +14,7 @@ use Rattle.pip_apart.proofs.Known.{runs_show_known, slots_show_known}
 use Rattle.pip_apart.proofs.Telling.{none_marked}
 use Rattle.pip_apart.proofs.Testing.{both}
 use Rattle.pip_base.specs.declared.types.Plan.{Plan}
-use Rattle.pip_core_text.specs.CoreRead.{AreWholeLines}
+use Rattle.pip_audit.specs.CoreRead.{AreWholeLines}
 use Rattle.pip_guests.specs.Programs.{Slot, all_steps, next_world, ready, run_slots, turn_of}
 use Rattle.pip_model.specs.Acts.{Act, after_acts, text_of}
 use Rattle.pip_model.specs.Images.{Image}
@@ -26,7 +26,7 @@ use Rattle.pip_model.proofs.OnLists.Acts.{text-append, text-raises, text-trace}
 use Rattle.pip_search.specs.Summary.{Witness}
 use Rattle.pip_search.specs.declared.searching.Extent.{Extent}
 use Rattle.pip_search.specs.declared.searching.Extent.TheVariants.{Closed, Stopped, Within}
-use Rattle.pip_ways.specs.Texts.{inner, verdict_line}
+use Rattle.pip_every.specs.Texts.{inner, verdict_line}
 use Rattle.pip_io.proofs.Piecewise.{flat_split}
 use Rattle.pip_search_commands.specs.ApartLaw.{HasLineOf, SaysYes, SlotsAreNamed, YesNamesAll, YesNamesRuns}
 use Rattle.pip_search_commands.specs.ApartText.{apart_text}

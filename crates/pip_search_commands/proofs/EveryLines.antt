@@ -18,8 +18,8 @@ use Rattle.pip_model.specs.Worlds.{World, runs_on}
 use Rattle.pip_model.specs.declared.effect.Effect.{Effect}
 use Rattle.pip_model.specs.declared.effect.Effect.TheVariants as F
 use Rattle.pip_model.specs.declared.processors.Occupant.{Occupant}
-use Rattle.pip_ways.proofs.LabelLines.{inner_of}
-use Rattle.pip_ways.specs.Texts.{inner}
+use Rattle.pip_every.proofs.LabelLines.{inner_of}
+use Rattle.pip_every.specs.Texts.{inner}
 use Rattle.pip_search_commands.specs.EveryLaw.{IsLineAt, LinesAreOfRuns}
 
 at_step : (t : ℕ) (rest : List ℕ) → IsLineAt t (decimal 0 ++ (rest ++ 10 ∷ [])) (decimal t ++ (rest ++ 10 ∷ []))

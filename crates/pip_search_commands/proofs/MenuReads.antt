@@ -7,12 +7,12 @@ use Rattle.std.specs.Io.KnownBytes.{Consumes, Keeps, prepend_known}
 use Rattle.std.proofs.KnownBytes.{Consumes-trans, Keeps-refl}
 use Rattle.std.proofs.lemmas.Bool.{leb-true}
 use Rattle.std.proofs.lemmas.List.{length-take-le, take-append-drop, take_all}
-use Rattle.pip_core_text.specs.CoreRead.{AreWholeLines}
-use Rattle.pip_input.specs.Held.{Held}
-use Rattle.pip_input.specs.Lines.{HasNoNewline, HoldsLine, HoldsPart, IsLineless, still}
-use Rattle.pip_input.specs.declared.input.LineEnd.TheVariants.{End, Last, Newline, Over, TooLong}
-use Rattle.pip_input.proofs.LinesOf.{Begins, begins, lines_last, lines_newline}
-use Rattle.pip_input.proofs.Taking.{all_read, line_split, took_line}
+use Rattle.pip_audit.specs.CoreRead.{AreWholeLines}
+use Rattle.pip_script.specs.Held.{Held}
+use Rattle.pip_script.specs.Lines.{HasNoNewline, HoldsLine, HoldsPart, IsLineless, still}
+use Rattle.pip_script.specs.declared.input.LineEnd.TheVariants.{End, Last, Newline, Over, TooLong}
+use Rattle.pip_script.proofs.LinesOf.{Begins, begins, lines_last, lines_newline}
+use Rattle.pip_script.proofs.Taking.{all_read, line_split, took_line}
 use Rattle.pip_model.specs.Grammar.{lines_of}
 use Rattle.pip_search_commands.specs.MenuReading.{BeginsMenu, TakesBadLine, TakesGoodLines, TakesMenu}
 use Rattle.pip_search_commands.specs.MenuText.{Asks, Does, Frees, MenuSaid, Nothing, Said, any_said, can_add}

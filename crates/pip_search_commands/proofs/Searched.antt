@@ -16,7 +16,7 @@ use Rattle.pip_model.specs.Images.{Image, image_word}
 use Rattle.pip_model.specs.Run.{trace_image_line}
 use Rattle.pip_search.specs.Summary.{IsTold, Witness}
 use Rattle.pip_search.specs.Ways.{witnesses_of}
-use Rattle.pip_ways.specs.Texts.{search_text}
+use Rattle.pip_every.specs.Texts.{search_text}
 use Rattle.pip_command_contracts.specs.EndsBy.{plainly}
 use Rattle.pip_command_contracts.specs.Planned.{lines_planned}
 use Rattle.pip_search_commands.specs.EveryText.{again_text, against_text, away_text, comes_text, every_text}

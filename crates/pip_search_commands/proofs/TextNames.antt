@@ -9,7 +9,7 @@ use Rattle.std.proofs.lemmas.List.{append_cancel_right, reverse-append}
 use Rattle.pip_away.specs.Blind.{leaves_out}
 use Rattle.pip_command_contracts.specs.EndsBy.{plainly}
 use Rattle.pip_command_contracts.specs.Planned.{lines_planned}
-use Rattle.pip_core_text.specs.CoreRead.{AreWholeLines}
+use Rattle.pip_audit.specs.CoreRead.{AreWholeLines}
 use Rattle.pip_every.specs.declared.again.Again.{Again}
 use Rattle.pip_every.specs.declared.again.Again.TheVariants.{Can, Lost, Unknown}
 use Rattle.pip_every.specs.declared.away.Away.{Away}
@@ -32,8 +32,8 @@ use Rattle.pip_search_commands.specs.SearchDues.{IsSearchedAgainst}
 use Rattle.pip_search_commands.specs.declared.start.Start.{Start}
 use Rattle.pip_search_commands.specs.TextLaw.{ClosedTextsNameMenus, ClosedTextsNameRuns, EndsSo, YesTextsComeAgain}
 use Rattle.pip_search_commands.specs.TextLaw.{comes_again_line}
-use Rattle.pip_ways.specs.Texts.{choice_text, deed_text, inner, spaced_run, times_text, verdict_line, way_text}
-use Rattle.pip_ways.specs.Texts.{witness_line}
+use Rattle.pip_every.specs.Texts.{choice_text, deed_text, inner, spaced_run, times_text, verdict_line, way_text}
+use Rattle.pip_every.specs.Texts.{witness_line}
 use Rattle.pip_search_commands.proofs.AgainstOnce.{closed_names_menus, yes_comes_again}
 use Rattle.pip_search_commands.proofs.ApartNames.{all_whole, both_whole, image_whole, same_answer}
 use Rattle.pip_search_commands.proofs.RunsChosen.{closed_names_runs, lines_known}

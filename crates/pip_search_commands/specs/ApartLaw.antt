@@ -4,14 +4,14 @@ use Rattle.std.specs.List.{AllByRecursion}
 use Rattle.pip_apart.specs.Texts.{apart_line}
 use Rattle.pip_asm.specs.Laws.{AreBytes}
 use Rattle.pip_base.specs.declared.types.Plan.{Plan}
-use Rattle.pip_core_text.specs.CoreRead.{AreWholeLines}
+use Rattle.pip_audit.specs.CoreRead.{AreWholeLines}
 use Rattle.pip_guests.specs.Programs.{Slot, next_world, ready, turn_of}
 use Rattle.pip_model.specs.Acts.{text_of}
 use Rattle.pip_model.specs.Images.{Image, image}
 use Rattle.pip_model.specs.Run.{end_line, image_world, run_text, steps, trace_image_line}
 use Rattle.pip_model.specs.RunTexts.{stepped_world}
 use Rattle.pip_model.specs.Worlds.{World}
-use Rattle.pip_ways.specs.Texts.{inner}
+use Rattle.pip_every.specs.Texts.{inner}
 use Rattle.pip_search_commands.specs.SearchDues.{IsFoundApart}
 use Rattle.pip_command_contracts.specs.EndsBy.{Response, plainly}
 use Rattle.pip_search_commands.specs.EveryLaw.{IsLineAt}

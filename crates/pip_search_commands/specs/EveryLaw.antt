@@ -4,7 +4,7 @@ use Rattle.pip_model.specs.Acts.{text_of}
 use Rattle.pip_model.specs.Images.{Image}
 use Rattle.pip_model.specs.Turn.{turn}
 use Rattle.pip_model.specs.Worlds.{World}
-use Rattle.pip_ways.specs.Texts.{inner}
+use Rattle.pip_every.specs.Texts.{inner}
 use Rattle.pip_search_commands.specs.MenuText.{no_menu}
 use Rattle.pip_search_commands.specs.SearchDues.{IsSearchedAgainst}
 use Rattle.pip_command_contracts.specs.EndsBy.{Response}

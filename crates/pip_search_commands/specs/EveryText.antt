@@ -16,7 +16,7 @@ use Rattle.pip_search.specs.Summary.{Witness}
 use Rattle.pip_search.specs.declared.searching.Extent.{Extent}
 use Rattle.pip_search.specs.declared.ways.Run.{Run}
 use Rattle.pip_search_commands.specs.MenuText.{MenuSaid}
-use Rattle.pip_ways.specs.Texts.{search_text, spaced_run}
+use Rattle.pip_every.specs.Texts.{search_text, spaced_run}
 
 -- the first line of a trace, then a line for each label that can come, with its way, then how the search ended
 abbrev pub every_text : Image → List Witness → ℕ → Extent → List ℕ

@@ -2,8 +2,8 @@
 use Rattle.std.specs.Prelude.{◌≡◌, ℕ, ◌≤◌, ◌⊎◌, List, ◌++◌, length, Option, Ok, Err}
 use Rattle.std.specs.Io.KnownBytes.{Consumes, IsAtEnd}
 use Rattle.pip_away.specs.Blind.{left_out}
-use Rattle.pip_core_text.specs.CoreRead.{AreWholeLines}
-use Rattle.pip_input.specs.Lines.{HasNoNewline}
+use Rattle.pip_audit.specs.CoreRead.{AreWholeLines}
+use Rattle.pip_script.specs.Lines.{HasNoNewline}
 use Rattle.pip_io.specs.Causes.{RoseByOne}
 use Rattle.pip_search_commands.specs.EveryText.{label_bytes}
 use Rattle.pip_search_commands.specs.MenuText.{MenuSaid, menu_of}

@@ -17,8 +17,8 @@ use Rattle.pip_model.specs.Run.{steps, trace_image_line}
 use Rattle.pip_model.specs.Worlds.{World, boot_world_with}
 use Rattle.pip_search.specs.Summary.{IsTold}
 use Rattle.pip_search.specs.Ways.{AreTraced, witnesses_of}
-use Rattle.pip_ways.specs.Texts.{search_text}
-use Rattle.pip_ways.specs.Told.{runs_to}
+use Rattle.pip_every.specs.Texts.{search_text}
+use Rattle.pip_every.specs.Told.{runs_to}
 use Rattle.pip_search_commands.specs.SearchDues.{most_choices}
 use Rattle.pip_command_contracts.specs.EndsBy.{Response, plainly}
 use Rattle.pip_command_contracts.specs.Planned.{lines_planned}

@@ -31,7 +31,7 @@ use Rattle.pip_guests.proofs.Lines.{line_alike, not_top}
 use Rattle.pip_guests.proofs.Moves.{saved_leaves}
 use Rattle.pip_guests.proofs.Taking.{trees}
 use Rattle.pip_slots.specs.Slots.{IsBetweenSlots, closing, polling}
-use Rattle.pip_native_run.specs.Watching.{root_runs}
+use Rattle.pip_native.specs.Watching.{root_runs}
 use Rattle.pip_slots.proofs.Kids.{Kid, cpu_of_name}
 use Rattle.pip_slots.proofs.Roots.{KeepsRoot, handles_some, keeps_masked, keeps_pending, keeps_trans, leaves_keeps}
 use Rattle.pip_slots.proofs.Roots.{takes_kept}

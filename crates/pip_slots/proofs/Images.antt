@@ -16,8 +16,8 @@ use Rattle.pip_model.proofs.Trees.Ancestry.{named_node}
 use Rattle.pip_model.proofs.Trees.Children.{child_is}
 use Rattle.pip_model.proofs.Trees.Lookup.{in_other, root_found}
 use Rattle.pip_guests.specs.Guests.{IsSameGuest}
-use Rattle.pip_native_run.specs.Watching.{addresses, fresh, page_address, ready_world, with_handlers}
-use Rattle.pip_native_run.proofs.Beginning.{room_first}
+use Rattle.pip_native.specs.Watching.{addresses, fresh, page_address, ready_world, with_handlers}
+use Rattle.pip_native.proofs.Beginning.{room_first}
 use Rattle.pip_slots.specs.Images.{AgreeOnChild, HasRooms, ImagesBegin, ImagesSeparate, ImagesSeparateRounds}
 use Rattle.pip_slots.specs.Images.{ImagesSeparateSlots, placed, round_plan}
 use Rattle.pip_slots.specs.declared.time_slot.RoundSlot.{RoundSlot}

@@ -14,7 +14,7 @@ use Rattle.pip_model.specs.Run.{image_world}
 use Rattle.pip_model.specs.Sound.{ArePageWords, IsWord}
 use Rattle.pip_model.specs.declared.instr.Instr.{Instr}
 use Rattle.pip_model.specs.declared.instr.Instr.TheVariants as I
-use Rattle.pip_native_run.specs.Watching.{ready_world}
+use Rattle.pip_native.specs.Watching.{ready_world}
 use Rattle.pip_slots.specs.Images.{AgreeOnChild, HasRooms}
 use Rattle.pip_slots.specs.Limits.{NativeIsNotSeparate, native_learns}
 use Rattle.pip_slots.specs.Slots.{IsRootsChild}

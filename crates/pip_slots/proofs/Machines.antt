@@ -7,7 +7,7 @@ use Rattle.pip_model.specs.Worlds.{IsSoundWorld, World}
 use Rattle.pip_model.proofs.Trees.Children.{child_is}
 use Rattle.pip_model.proofs.Trees.Free.{node_found}
 use Rattle.pip_model.proofs.Trees.Lookup.{in_other, root_found}
-use Rattle.pip_native_run.specs.Watching.{ready_world}
+use Rattle.pip_native.specs.Watching.{ready_world}
 use Rattle.pip_slots.specs.Machines.{MachinesBegin, MachinesSeparate}
 use Rattle.pip_slots.specs.Slots.{IsRootsChild, slot_run}
 use Rattle.pip_slots.proofs.Closing.{Slotted}

@@ -16,7 +16,7 @@ use Rattle.pip_model.specs.Turn.{call_line, moved_line, outcome_of, world_of}
 use Rattle.pip_model.specs.Worlds.{World}
 use Rattle.pip_slots.specs.declared.time_slot.TimeSlot.{TimeSlot}
 use Rattle.pip_slots.specs.Slots.{closing, slot_entry, slot_turns, opening, polling, rest_acts}
-use Rattle.pip_native_run.specs.Watching.{root_runs}
+use Rattle.pip_native.specs.Watching.{root_runs}
 use Rattle.pip_slots.specs.Slots.{slot_acts}
 
 -- an event, and the line of its outcome

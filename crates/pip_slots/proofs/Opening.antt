@@ -34,7 +34,7 @@ use Rattle.pip_guests.proofs.Inside.{one_way}
 use Rattle.pip_guests.proofs.Elsewhere.{masked_agrees, name_after}
 use Rattle.pip_guests.proofs.Leaving.{one_left}
 use Rattle.pip_slots.specs.Slots.{IsBetweenSlots, slot_entry, opening}
-use Rattle.pip_native_run.specs.Watching.{is_root}
+use Rattle.pip_native.specs.Watching.{is_root}
 use Rattle.pip_slots.proofs.Kids.{Kid, kid_apart, kid_found, kid_same, runs_alone}
 use Rattle.pip_slots.proofs.Roots.{KeepsRoot, keeps_masked, keeps_same, keeps_trans, keeps_unsaved, root_node}
 use Rattle.pip_slots.proofs.Roots.{takes_kept, unsaved}

@@ -19,7 +19,7 @@ use Rattle.pip_guests.proofs.Elsewhere.{others_leave_guests_alone, same_trans}
 use Rattle.pip_guests.proofs.Lines.{below_before}
 use Rattle.pip_slots.specs.declared.time_slot.TimeSlot.{TimeSlot}
 use Rattle.pip_slots.specs.Slots.{IsBetweenSlots, after_slot, closing, slot_turns, opening, rest_acts}
-use Rattle.pip_native_run.specs.Watching.{root_runs}
+use Rattle.pip_native.specs.Watching.{root_runs}
 use Rattle.pip_slots.proofs.Kids.{Kid, kid_aside, kid_same}
 use Rattle.pip_slots.proofs.Ready.{Ready, ready_own}
 use Rattle.pip_slots.proofs.Opening.{other_opened}

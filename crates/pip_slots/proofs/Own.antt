@@ -49,7 +49,7 @@ use Rattle.pip_guests.proofs.Elsewhere.{same_sym}
 use Rattle.pip_guests.proofs.Leaving.{guests_are_left_alike}
 use Rattle.pip_guests.proofs.Known.{events_are_known}
 use Rattle.pip_guests.proofs.Asking.{asked_same}
-use Rattle.pip_native_run.specs.Watching.{root_runs}
+use Rattle.pip_native.specs.Watching.{root_runs}
 use Rattle.pip_slots.proofs.Kids.{Kid, kid_left, kid_line, kid_same, runs_alone}
 use Rattle.pip_slots.proofs.Roots.{handles_some, root_node}
 use Rattle.pip_slots.proofs.Ready.{Ready, Runs, fault_small, ready_own, takers}

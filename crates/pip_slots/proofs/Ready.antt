@@ -28,7 +28,7 @@ use Rattle.pip_model.proofs.Locality.OneEvent.{at_set_here}
 use Rattle.pip_guests.specs.Guests.{is_own}
 use Rattle.pip_guests.proofs.Moves.{call_by, event_moves, fetch_by, load_by, set_by, store_by, trap_by}
 use Rattle.pip_slots.specs.Slots.{IsBetweenSlots, TakesEachVector}
-use Rattle.pip_native_run.specs.Watching.{is_root}
+use Rattle.pip_native.specs.Watching.{is_root}
 use Rattle.pip_slots.proofs.Kids.{runs_alone, taker_some}
 use Rattle.pip_slots.proofs.Roots.{handles_some, leaves_keeps, leaves_root, takes_kept}
 

@@ -28,10 +28,10 @@ use Rattle.pip_model.proofs.Locality.OneEvent.{at_set_here}
 use Rattle.pip_parent.proofs.Stored.{link_next, with_words}
 use Rattle.pip_parent.proofs.Whole.{created_world}
 use Rattle.pip_parent.proofs.Whole as W
-use Rattle.pip_native_run.specs.Rooms.{HasRoomForChildren}
-use Rattle.pip_native_run.specs.Watching.{child_wants, pool_of}
-use Rattle.pip_native_run.proofs.Building.{builder, lacks_none}
-use Rattle.pip_native_run.proofs.Pools.{IsPlace, pool_page}
+use Rattle.pip_native.specs.Rooms.{HasRoomForChildren}
+use Rattle.pip_native.specs.Watching.{child_wants, pool_of}
+use Rattle.pip_native.proofs.Building.{builder, lacks_none}
+use Rattle.pip_native.proofs.Pools.{IsPlace, pool_page}
 
 -- a call on memory by what runs on processor 0
 sound_call : (c : MemoryCall) (number : ℕ) (a : Five) → call_named number ≡ OnMemory c → IsEvent (E.Call 0 number a)

@@ -29,12 +29,12 @@ use Rattle.pip_model.proofs.Trees.Free.{hidden_from, no_holder-unheld}
 use Rattle.pip_parent.proofs.Stored.{with_words}
 use Rattle.pip_parent.specs.Built.{child_with}
 use Rattle.pip_parent.specs.Stages.{built_world}
-use Rattle.pip_native_run.specs.Rooms.{HasRoomForChildren}
-use Rattle.pip_native_run.specs.Watching.{after_store, child_wants, fresh, page_address, pages_taken, pool_of}
-use Rattle.pip_native_run.specs.Watching.{with_built}
-use Rattle.pip_native_run.specs.Watching.{with_child, with_children, with_entry, with_handlers}
-use Rattle.pip_native_run.proofs.Building.{room_next}
-use Rattle.pip_native_run.proofs.Open.{IsOpen, open_page, open_top, reached}
+use Rattle.pip_native.specs.Rooms.{HasRoomForChildren}
+use Rattle.pip_native.specs.Watching.{after_store, child_wants, fresh, page_address, pages_taken, pool_of}
+use Rattle.pip_native.specs.Watching.{with_built}
+use Rattle.pip_native.specs.Watching.{with_child, with_children, with_entry, with_handlers}
+use Rattle.pip_native.proofs.Building.{room_next}
+use Rattle.pip_native.proofs.Open.{IsOpen, open_page, open_top, reached}
 use Rattle.pip_slots.specs.Slots.{IsUnlent, TakesEachVector}
 use Rattle.pip_slots.proofs.Roots.{root_node}
 use Rattle.pip_slots.proofs.Sounds.{built_sound}

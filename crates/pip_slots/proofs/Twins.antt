@@ -16,9 +16,9 @@ use Rattle.pip_model.specs.declared.processors.Occupant.{Occupant}
 use Rattle.pip_parent.proofs.Stored.{with_words}
 use Rattle.pip_parent.specs.Built.{child_with}
 use Rattle.pip_parent.specs.Stages.{caches_before}
-use Rattle.pip_native_run.specs.Watching.{after_store, child_wants, fresh, pool_of, ready_world, with_built}
-use Rattle.pip_native_run.specs.Watching.{with_children, with_entry, with_handlers}
-use Rattle.pip_native_run.proofs.Open.{open_top}
+use Rattle.pip_native.specs.Watching.{after_store, child_wants, fresh, pool_of, ready_world, with_built}
+use Rattle.pip_native.specs.Watching.{with_children, with_entry, with_handlers}
+use Rattle.pip_native.proofs.Open.{open_top}
 use Rattle.pip_guests.specs.Guests.{IsSameGuest}
 use Rattle.pip_slots.proofs.Stages.{Stage, first_stored, fresh_open, reaches, stage_children, stage_entry}
 use Rattle.pip_slots.proofs.Stages.{stage_handlers}

@@ -30,7 +30,7 @@ use Rattle.pip_guests.proofs.Moves.{set_by}
 use Rattle.pip_guests.proofs.Turns.{fetch_stays, poll_vain, turn_fetches}
 use Rattle.pip_guests.proofs.Words.{fetch_are}
 use Rattle.pip_slots.specs.Slots.{slot_turn, slot_turns}
-use Rattle.pip_native_run.specs.Watching.{root_runs}
+use Rattle.pip_native.specs.Watching.{root_runs}
 use Rattle.pip_slots.proofs.Ready.{Ready}
 
 -- one event, answered alike in both worlds

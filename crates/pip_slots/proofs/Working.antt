@@ -9,7 +9,7 @@ use Rattle.pip_model.specs.Port.{Follows, TakesAtMost, TakesNoMore}
 use Rattle.pip_model.specs.Turn.{world_of}
 use Rattle.pip_model.specs.Work.{events_work}
 use Rattle.pip_model.specs.Worlds.{World}
-use Rattle.pip_native_run.specs.Watching.{root_runs}
+use Rattle.pip_native.specs.Watching.{root_runs}
 use Rattle.pip_slots.specs.declared.time_slot.TimeSlot.{TimeSlot}
 use Rattle.pip_slots.specs.Slots.{closing, next_step, opening, plan_steps, rest_acts, rounds, slot_acts}
 use Rattle.pip_slots.specs.Slots.{slot_run, slot_turn, slot_turns}

@@ -10,7 +10,7 @@ use Rattle.pip_model.specs.Run.{end_line, image_world, trace_image_line}
 use Rattle.pip_model.specs.Sound.{ArePageWords, IsWord}
 use Rattle.pip_model.specs.Tree.{vpage}
 use Rattle.pip_model.specs.Worlds.{World}
-use Rattle.pip_native_run.specs.Watching.{addresses, built_from, fresh, page_address, pages_taken, ready_world}
+use Rattle.pip_native.specs.Watching.{addresses, built_from, fresh, page_address, pages_taken, ready_world}
 use Rattle.pip_slots.specs.declared.time_slot.RoundSlot.{RoundSlot}
 use Rattle.pip_slots.specs.declared.time_slot.TimeSlot.{TimeSlot}
 use Rattle.pip_slots.specs.Slots.{IsBetweenSlots, IsRootsChild, lines_of_child, rounds, slot_run, slot_texts}

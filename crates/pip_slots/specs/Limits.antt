@@ -6,7 +6,7 @@ use Rattle.pip_model.specs.Acts.{events_made}
 use Rattle.pip_model.specs.Images.{Image}
 use Rattle.pip_model.specs.Run.{image_world}
 use Rattle.pip_guests.specs.Guests.{learns_own}
-use Rattle.pip_native_run.specs.Watching.{fresh, native_steps, ready_world}
+use Rattle.pip_native.specs.Watching.{fresh, native_steps, ready_world}
 use Rattle.pip_slots.specs.Images.{AgreeOnChild, HasRooms}
 use Rattle.pip_slots.specs.Slots.{IsRootsChild}
 

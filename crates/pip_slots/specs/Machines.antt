@@ -9,7 +9,7 @@ use Rattle.pip_model.specs.Sound.{IsWord}
 use Rattle.pip_model.specs.Worlds.{World}
 use Rattle.pip_switch.specs.Standing.{StandsAs, State}
 use Rattle.pip_guests.specs.Guests.{IsSameGuest}
-use Rattle.pip_native_run.specs.Watching.{fresh, ready_world}
+use Rattle.pip_native.specs.Watching.{fresh, ready_world}
 use Rattle.pip_slots.specs.Images.{AgreeOnChild, HasRooms}
 use Rattle.pip_slots.specs.declared.time_slot.TimeSlot.{TimeSlot}
 use Rattle.pip_slots.specs.Slots.{IsBetweenSlots, IsRootsChild, slot_run, slot_texts}

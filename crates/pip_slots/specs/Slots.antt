@@ -17,7 +17,7 @@ use Rattle.pip_model.specs.Tree.{Node, Tree, child_at, held_pages, word_of}
 use Rattle.pip_model.specs.Turn.{call_line, moved_line, outcome_of, turn, world_of}
 use Rattle.pip_model.specs.Worlds.{IsSoundWorld, World, runs_on}
 use Rattle.pip_guests.specs.Guests.{IsSameGuest}
-use Rattle.pip_native_run.specs.Watching.{root_runs}
+use Rattle.pip_native.specs.Watching.{root_runs}
 use Rattle.pip_slots.specs.declared.time_slot.TimeSlot.{TimeSlot}
 
 -- ---- the steps of a slot, on processor 0

@@ -5,7 +5,7 @@ ghost use Rattle.pip_io.specs.Causes.{HasCause};
 ghost use Rattle.pip_model.specs.Port.{TakesNoMore};
 ghost use Rattle.pip_model.specs.Worlds.{World};
 ghost use Rattle.pip_slots.specs.Slots.{closing, slot_turn, opening};
-ghost use Rattle.pip_native_run.specs.Watching.{root_runs};
+ghost use Rattle.pip_native.specs.Watching.{root_runs};
 
 use pip_base::Steps;
 use pip_cpu::{turn, write_call, write_moved};

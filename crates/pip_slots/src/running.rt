@@ -5,7 +5,7 @@ ghost use Rattle.pip_io.specs.Causes.{HasCause};
 ghost use Rattle.pip_model.specs.Port.{TakesNoMore};
 ghost use Rattle.pip_model.specs.Worlds.{World};
 ghost use Rattle.pip_slots.specs.Slots.{plan_steps, rounds, slot_acts, slot_run, slot_turns};
-ghost use Rattle.pip_native_run.specs.Watching.{root_runs};
+ghost use Rattle.pip_native.specs.Watching.{root_runs};
 ghost use Rattle.pip_switch.specs.Standing.{StandsAs};
 
 use crate::edges::{close_slot, inner_once, open_slot};

@@ -3,8 +3,8 @@ ghost use Rattle.pip_base.specs.Opening.{CanOpen};
 
 use crate::compare::same;
 use pip_base::{Frame, Steps};
+use pip_every::{First, Journal, copied};
 use pip_frames::{Frames, RawFrames};
-use pip_journal::{First, Journal, copied};
 use pip_switch::Rewind;
 use std::alloc::{AllocError, Global};
 use std::marker::Brand;

@@ -11,15 +11,22 @@ mod away;
 mod changes;
 #[cfg(test)]
 mod compare;
+mod counters;
+#[cfg(test)]
+mod counting;
 mod met;
 #[cfg(test)]
 mod replies;
+mod rows;
 #[cfg(test)]
 mod searches;
+#[cfg(test)]
+mod stored;
 mod taking;
 #[cfg(test)]
 mod tests;
 
 pub use asks::Ask;
+pub use counters::Counters;
 pub use met::{alone, ancestors, apart, depends, inputs, left, lists, others, steps};
 pub use taking::boot_and_take;

@@ -14,4 +14,10 @@ mod native;
 #[cfg(test)]
 mod run;
 #[cfg(test)]
+mod script;
+#[cfg(test)]
+mod script_ends;
+#[cfg(test)]
 mod soak;
+#[cfg(test)]
+mod top;

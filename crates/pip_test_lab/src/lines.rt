@@ -1,5 +1,5 @@
 use crate::compare::holds;
-use pip_certificate_parts::{PartLine, PartNumbers, label_sum, read_line, sum_and};
+use pip_certificates::{PartLine, PartNumbers, label_sum, read_line, sum_and};
 use std::test::Fail;
 
 // Whether a line is of a key with these digits and this depth.

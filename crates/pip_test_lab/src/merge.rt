@@ -1,5 +1,5 @@
 use crate::compare::same;
-use pip_certificate_commands::merge;
+use pip_certificates::merge;
 use pip_io::{MemSink, MemSource};
 use std::process::Abort;
 use std::test::Fail;

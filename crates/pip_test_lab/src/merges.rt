@@ -1,5 +1,5 @@
 use crate::compare::holds;
-use pip_certificate_parts::{MergeError, MergeFault, Merger, Uneven};
+use pip_certificates::{MergeError, MergeFault, Merger, Uneven};
 use std::alloc::Global;
 use std::test::Fail;
 

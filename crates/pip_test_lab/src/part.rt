@@ -1,5 +1,5 @@
 use crate::compare::{holds, same};
-use pip_certificate_commands::part;
+use pip_certificates::part;
 use pip_commands::asm;
 use pip_io::{MemSink, MemSource};
 use std::process::Abort;

@@ -4,8 +4,8 @@ ghost use Rattle.pip_base.specs.Opening.{CanOpen};
 ghost use Rattle.pip_base.specs.Memory.{zeros};
 
 use crate::compare::{holds, same};
+use pip_audit::{CoreError, read_core, read_core_from_joint};
 use pip_base::{Frame, Steps};
-use pip_core_text::{CoreError, read_core, read_core_from_joint};
 use pip_dump::frame_text;
 use pip_frames::{Frames, VecFrames};
 use pip_io::{Discard, Joint, MemSink, MemSource, write_all};

@@ -1,6 +1,6 @@
 //! Images, disassembled.
 use crate::compare::{holds, same};
-use pip_dis::{DisError, disassemble};
+use pip_asm::{DisError, disassemble};
 use pip_image::ImageError;
 use pip_io::{Gatherer, MemSink, MemSource};
 use std::alloc::AllocError;

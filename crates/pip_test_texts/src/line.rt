@@ -1,6 +1,6 @@
 //! Lines by hand: each instruction, each directive, and each fault that a line has by itself.
 use crate::compare::{holds, same};
-use pip_asm_line::{Cell, NameUse, Statement, cut_line, statement};
+use pip_asm::{Cell, NameUse, Statement, cut_line, statement};
 use pip_base::Plan;
 use pip_model::{AsmKind, Stage};
 use std::process::Abort;

@@ -7,7 +7,7 @@ use pip_cpu::{TurnEnd, turn, write_call, write_moved};
 use pip_every::{Deed, Label, May, add_processors, note_words, read_processors};
 use pip_frames::{Frames, RawFrames};
 use pip_io::{Discard, Failed};
-use pip_journal::Journal;
+use pip_every::Journal;
 use pip_lines::{Line, run_lines};
 use pip_model::{Occupant, Port, due};
 use pip_switch::Machine;

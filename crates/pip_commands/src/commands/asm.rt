@@ -9,8 +9,8 @@ ghost use Rattle.pip_command_contracts.specs.Commands.{Fulfils, FulfilsJoined, M
 use crate::text::bad_asm_line;
 use pip_asm::{AsmError, assemble};
 use pip_command_contracts::{Ended, end_with};
-use pip_input::{ReadError, read_whole};
 use pip_io::{Joint, Sink, Source};
+use pip_script::{ReadError, read_whole};
 use std::alloc::Global;
 
 /// Writes the image that an assembly text is (docs/FORMATS.md, "Assembly"). The whole input is read before a line is

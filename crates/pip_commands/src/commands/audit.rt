@@ -10,10 +10,9 @@ ghost use Rattle.pip_command_contracts.specs.EndsBy.{EndsWithResponse};
 ghost use Rattle.pip_command_contracts.specs.Commands.{Fulfils, FulfilsJoined, MayStart, MayStartJoined};
 
 use crate::text::{bad_line, no_line};
-use pip_audit::{Auditor, Verdict};
+use pip_audit::{Auditor, CoreError, Verdict, read_core_from_joint};
 use pip_base::Steps;
 use pip_command_contracts::{Ended, end_with};
-use pip_core_text::{CoreError, read_core_from_joint};
 use pip_dump::tree_text;
 use pip_frames::{Frames, RawFrames};
 use pip_io::{Joint, Sink, Source};

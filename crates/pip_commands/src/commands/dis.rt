@@ -2,10 +2,9 @@
 ghost use Rattle.pip_commands.specs.Dues.{dis_due};
 ghost use Rattle.pip_command_contracts.specs.Commands.{Fulfils, MayStart};
 
+use pip_asm::Disassembler;
 use pip_command_contracts::{Ended, end_at_image};
-use pip_dis::Disassembler;
-use pip_drive::{FailedStream, drive};
-use pip_io::{Sink, Source};
+use pip_io::{FailedStream, Sink, Source, drive};
 use std::alloc::Global;
 
 /// Writes an image as an assembly text (docs/FORMATS.md, "Assembly"). It takes no memory. Whatever

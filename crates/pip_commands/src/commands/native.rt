@@ -7,7 +7,7 @@ ghost use Rattle.pip_io.specs.Causes.{HasCause};
 ghost use Rattle.pip_model.specs.Worlds.{World};
 ghost use Rattle.pip_native.specs.Choice.{AnswersNext};
 ghost use Rattle.pip_switch.specs.Standing.{StandsAs};
-ghost use Rattle.pip_native_run.specs.Watching.{root_runs as runs_root, watched_steps};
+ghost use Rattle.pip_native.specs.Watching.{root_runs as runs_root, watched_steps};
 ghost use Rattle.pip_commands.specs.Children.{monitored};
 ghost use Rattle.pip_commands.specs.Dues.{native_due};
 
@@ -19,8 +19,7 @@ use pip_frames::Frames;
 use pip_io::{Failed, Sink, Source};
 use pip_lines::{Callback, Line, raise_due};
 use pip_model::Port;
-use pip_native::{Chooser, Monitor, next_child};
-use pip_native_run::watch_once;
+use pip_native::{Chooser, Monitor, next_child, watch_once};
 use pip_switch::Machine;
 use std::alloc::Global;
 use std::marker::Brand;

@@ -9,8 +9,8 @@ mod turn;
 
 use pip_base::{MAX_INPUT, Steps, never};
 use pip_command_contracts::Ended;
-use pip_input::Input;
 use pip_io::{Joint, Sink, Source};
+use pip_script::Input;
 use std::alloc::Global;
 use std::marker::Brand;
 use std::sync::ledger::{Blank, Ledger};

@@ -12,7 +12,7 @@ use pip_kern::boot_zeros;
 use pip_model::{Occupant, Port, Register, ScriptLine, due};
 use pip_script::{Generator, is_blank, read_line, read_phrase};
 use pip_switch::Machine;
-use pip_native_run::{build_children, set_handlers};
+use pip_native::{build_children, set_handlers};
 use rattle_std::marker::Brand;
 use rattle_std::sync::ledger::Blank;
 use std::collections::BTreeMap;

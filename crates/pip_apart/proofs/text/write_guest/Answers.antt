@@ -2,7 +2,7 @@ use Rattle.std.proofs.Common.{rules, ◌≡◌, ◌++◌, arith, length}
 use Rattle.std.proofs.lemmas.Result.{MatchResult-from_err}
 use Rattle.std.specs.Prelude.{flat_map}
 use Rattle.pip_io.proofs.Taken.{Appends-trans}
-use Rattle.pip_ways.specs.Texts.{verdict_line}
+use Rattle.pip_every.specs.Texts.{verdict_line}
 use Rattle.pip_io.proofs.Piecewise.{part_after, part_longer, wrote_of}
 use Rattle.pip_apart.specs.Searches.{alone_of}
 use Rattle.pip_apart.specs.Texts.{guest_line, turn_line}

@@ -2,7 +2,7 @@ use Rattle.std.proofs.Common.{rules, ◌<◌, ◌≤◌, ◌∙◌, sym, subst, 
 use Rattle.std.specs.List.{AllByRecursion}
 use Rattle.std.proofs.lemmas.Result.{MatchResult-from_err}
 use Rattle.pip_io.specs.Taken.{AppendsPart}
-use Rattle.pip_ways.proofs.LabelLines.{all_taken, found_at, some_here}
+use Rattle.pip_every.proofs.LabelLines.{all_taken, found_at, some_here}
 use Rattle.pip_io.proofs.Piecewise.{cut_here, one_more}
 use Rattle.pip_apart.proofs.KnownWays.{known_here}
 use Rattle.pip_apart.proofs.Writing.{found_line, found_lines, line_here}

@@ -1,5 +1,5 @@
 use Rattle.std.proofs.Common.{◌≡◌, ◌∙◌, ◌-◌, ap, arith, sym}
-use Rattle.pip_outside.specs.Tests as tests
+use Rattle.pip_guests.specs.Tests as tests
 use Rattle.pip_away.specs.Blind.{blind_of}
 use Rattle.pip_away.proofs.Calling.{chain_met, chain_passed}
 use Rattle.pip_away.proofs.calls.chain_misses.Goals as goal

@@ -2,7 +2,7 @@ use Rattle.std.proofs.Common.{◌∙◌, ◌&&◌, ◌||◌, ap, not, sym}
 use Rattle.std.specs.Prelude.{nat_lt}
 use Rattle.std.proofs.lemmas.Bool.{le-leb}
 use Rattle.pip_model.specs.Answers.{five_of}
-use Rattle.pip_outside.specs.Tests as tests
+use Rattle.pip_guests.specs.Tests as tests
 use Rattle.pip_away.specs.Blind.{blind_of}
 use Rattle.pip_away.proofs.Calling.{saved_maybe, saved_never}
 use Rattle.pip_away.proofs.calls.yield_misses.Goals as goal

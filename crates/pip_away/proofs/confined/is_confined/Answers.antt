@@ -2,8 +2,8 @@ use Rattle.std.proofs.Common.{◌≡◌, ◌∙◌, ◌&&◌, false, length, ref
 use Rattle.std.specs.Prelude.{nat_lt}
 use Rattle.pip_model.specs.Tree.{children}
 use Rattle.pip_model.proofs.Trees.Ancestry.{root_is_one}
-use Rattle.pip_outside.specs.Exits.{writable_rows}
-use Rattle.pip_outside.specs.Tests as tests
+use Rattle.pip_guests.specs.Exits.{writable_rows}
+use Rattle.pip_guests.specs.Tests as tests
 use Rattle.pip_away.proofs.OnMachines.{confined_by, leaf_confined, none_runs, other_confined, part_here}
 use Rattle.pip_away.proofs.OnMachines.{root_confined, test_here, told_here}
 use Rattle.pip_away.proofs.confined.is_confined.Goals as goal

@@ -1,5 +1,5 @@
 use Rattle.std.proofs.Common.{◌∙◌, ◌||◌, ap, sym}
-use Rattle.pip_outside.specs.Tests as tests
+use Rattle.pip_guests.specs.Tests as tests
 use Rattle.pip_switch.proofs.Running.{any_runs}
 use Rattle.pip_away.specs.Blind.{blind_of}
 use Rattle.pip_away.proofs.delivery.is_passed.Goals as goal

@@ -3,7 +3,7 @@ use Rattle.pip_base.specs.declared.types.Access.TheVariants.{Fetch}
 use Rattle.pip_base.specs.declared.types.Size.TheVariants.{Word}
 use Rattle.pip_model.specs.Lists.{has}
 use Rattle.pip_model.specs.Reach.{reach}
-use Rattle.pip_outside.specs.Tests as tests
+use Rattle.pip_guests.specs.Tests as tests
 use Rattle.pip_switch.specs.Plain.{plain_world}
 use Rattle.pip_away.specs.Blind.{blind_of}
 use Rattle.pip_away.proofs.OnMachines.{fetched_by, part_here, run_here, told_here}

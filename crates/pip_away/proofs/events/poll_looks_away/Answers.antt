@@ -1,5 +1,5 @@
 use Rattle.std.proofs.Common.{◌≡◌, ◌∙◌, ◌&&◌, ap, refl, sym}
-use Rattle.pip_outside.specs.Tests as tests
+use Rattle.pip_guests.specs.Tests as tests
 use Rattle.pip_away.specs.Blind.{blind_of}
 use Rattle.pip_model.specs.Worlds.{runs_on}
 use Rattle.pip_away.proofs.OnMachines.{laid_here, none_runs, part_here, root_here, test_here, told_here}

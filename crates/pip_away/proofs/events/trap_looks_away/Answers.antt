@@ -1,5 +1,5 @@
 use Rattle.std.proofs.Common.{◌≡◌, ◌∙◌, refl, sym}
-use Rattle.pip_outside.specs.Tests as tests
+use Rattle.pip_guests.specs.Tests as tests
 use Rattle.pip_away.specs.Blind.{blind_of}
 use Rattle.pip_switch.specs.Plain.{plain_world}
 use Rattle.pip_away.proofs.OnMachines.{delivery_same, none_runs, part_here, test_here, told_here}

@@ -2,7 +2,7 @@ use Rattle.std.proofs.Common.{◌∙◌, ap, cond, sym, true}
 use Rattle.pip_base.specs.declared.types.Access.TheVariants.{Store}
 use Rattle.pip_base.specs.declared.types.Size.TheVariants.{Word}
 use Rattle.pip_model.specs.Reach.{reach}
-use Rattle.pip_outside.specs.Tests as tests
+use Rattle.pip_guests.specs.Tests as tests
 use Rattle.pip_away.specs.Blind.{blind_of}
 use Rattle.pip_away.proofs.Reading.{reached_there, save_landed, unreached_lands}
 use Rattle.pip_away.proofs.handlers.save_lands.Goals as goal

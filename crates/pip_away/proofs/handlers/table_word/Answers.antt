@@ -1,7 +1,7 @@
 use Rattle.std.proofs.Common.{◌∙◌, ◌+◌, ◌*◌, sym}
 use Rattle.pip_base.specs.declared.types.Access.TheVariants.{Load}
 use Rattle.pip_base.specs.declared.types.Size.TheVariants.{Word}
-use Rattle.pip_outside.specs.Outside.{entry_place}
+use Rattle.pip_guests.specs.Outside.{entry_place}
 use Rattle.pip_away.proofs.Reading.{located_read, no_table, some_table}
 use Rattle.pip_away.proofs.handlers.table_word.Goals as goal
 

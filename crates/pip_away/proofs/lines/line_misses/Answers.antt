@@ -3,7 +3,7 @@ use Rattle.pip_model.specs.Partitions.{HasPartition}
 use Rattle.pip_model.specs.Tree.{find_node}
 use Rattle.pip_model.proofs.Trees.Ancestry.{root_is_one}
 use Rattle.pip_model.proofs.Trees.Lookup.{root_found}
-use Rattle.pip_outside.specs.Tests as tests
+use Rattle.pip_guests.specs.Tests as tests
 use Rattle.pip_away.specs.Blind.{blind_of}
 use Rattle.pip_away.proofs.lines.line_misses.Goals as goal
 

@@ -3,7 +3,7 @@ use Rattle.pip_model.specs.Layout.{LaysOut}
 use Rattle.pip_model.specs.Lists.{In}
 use Rattle.pip_model.specs.Sound.{IsSound}
 use Rattle.pip_model.specs.Tree.{Tree}
-use Rattle.pip_outside.specs.Tests as tests
+use Rattle.pip_guests.specs.Tests as tests
 use Rattle.pip_away.specs.Blind.{blind_of}
 use Rattle.pip_away.proofs.lines.lines_miss.Given as goal
 

@@ -1,7 +1,7 @@
 use Rattle.std.proofs.Common.{◌∙◌, ap}
 use Rattle.pip_model.specs.Events as E
 use Rattle.pip_model.specs.Happens.{event}
-use Rattle.pip_outside.specs.Tests as tests
+use Rattle.pip_guests.specs.Tests as tests
 use Rattle.pip_away.specs.Blind.{blind_of}
 use Rattle.pip_away.proofs.turns.interrupt_looks_away.Goals as goal
 

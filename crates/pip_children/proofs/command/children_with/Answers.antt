@@ -1,6 +1,6 @@
 use Rattle.std.proofs.Common.{◌∙◌, ap, refl}
 use Rattle.pip_io.proofs.Taken.{Keeps-refl}
-use Rattle.pip_native_run.specs.Watching.{short_line}
+use Rattle.pip_native.specs.Watching.{short_line}
 use Rattle.pip_command_contracts.proofs.Endings.{ends_same}
 use Rattle.pip_children.proofs.Monitored.{children_cut, children_faulted, children_lacks, children_short}
 use Rattle.pip_children.proofs.Monitored.{children_shown}

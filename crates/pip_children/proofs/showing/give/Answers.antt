@@ -5,7 +5,7 @@ use Rattle.pip_io.specs.Taken.{Appends, AppendsPart}
 use Rattle.pip_io.specs.Taken.{Wrote}
 use Rattle.pip_model.specs.Run.{end_line, image_world, trace_image_line}
 use Rattle.pip_switch.specs.Standing.{StandsAs}
-use Rattle.pip_native_run.specs.Watching.{addresses, ready_world, with_handlers}
+use Rattle.pip_native.specs.Watching.{addresses, ready_world, with_handlers}
 use Rattle.pip_children.proofs.Monitoring.{address_count, cut_built, cut_first, cut_steps, made_steps, room_begun}
 use Rattle.pip_children.proofs.showing.give.Goals as goal
 

@@ -5,7 +5,7 @@ ghost use Rattle.std.specs.Io.KnownBytes as IO;
 ghost use Rattle.std.specs.Io.KnownBytes.{prepend_known};
 ghost use Rattle.pip_io.specs.Taken.{Keeps};
 ghost use Rattle.pip_io.specs.Moments.{joined};
-ghost use Rattle.pip_input.specs.Lines.{HoldsLine, HoldsPart, still};
+ghost use Rattle.pip_script.specs.Lines.{HoldsLine, HoldsPart, still};
 ghost use Rattle.pip_commands.specs.Pacing.{MayReadLine};
 ghost use Rattle.pip_commands.specs.Progress.{HasNoLine, LineComes, Names, Settles, TurnDoes, status_of};
 
@@ -13,8 +13,8 @@ use super::line::{ScriptLineError, run_line};
 use crate::text::bad_line;
 use pip_base::Steps;
 use pip_frames::RawFrames;
-use pip_input::{Input, LineEnd};
 use pip_io::{Joint, Sink, Source, write_all};
+use pip_script::{Input, LineEnd};
 use pip_switch::Machine;
 use std::alloc::Global;
 use std::sync::ledger::Ledger;

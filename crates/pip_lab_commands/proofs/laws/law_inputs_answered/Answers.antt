@@ -1,5 +1,5 @@
 use Rattle.pip_lab_commands.specs.Dues.{lab_due_of}
-use Rattle.pip_words.proofs.Answered.{inputs_are_answered}
+use Rattle.pip_command_contracts.proofs.Answered.{inputs_are_answered}
 use Rattle.pip_lab_commands.proofs.laws.law_inputs_answered.Goals as goal
 
 pub returns : goal.returns

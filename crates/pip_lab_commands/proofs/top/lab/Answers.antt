@@ -1,5 +1,5 @@
 use Rattle.std.proofs.Common.{map, string_bytes}
-use Rattle.pip_words.proofs.Asked.{paced_as_asked, within_as_asked}
+use Rattle.pip_command_contracts.proofs.Asked.{paced_as_asked, within_as_asked}
 use Rattle.pip_lab_commands.specs.Dues.{lab_due_of}
 use Rattle.pip_lab_commands.proofs.Bounds.{IsWithin, command_within}
 use Rattle.pip_lab_commands.proofs.top.lab.Goals as goal

@@ -4,9 +4,8 @@ ghost use Rattle.pip_io.specs.Writes.{Writes};
 ghost use Rattle.pip_search_commands.specs.EveryText.{label_bytes, said_line, again_text, said_words};
 
 use arrayvec::ArrayVec;
-use pip_every::{Again, MAX_LABEL};
+use pip_every::{Again, MAX_LABEL, write_way};
 use pip_io::{Failed, Sink, write_all};
-use pip_ways::write_way;
 
 /// Writes a line for each of these labels: what is said of it.
 pub fn write_said<K: Sink>(

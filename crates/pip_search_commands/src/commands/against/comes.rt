@@ -5,14 +5,13 @@ ghost use Rattle.pip_io.specs.Writes.{Writes};
 ghost use Rattle.pip_search_commands.specs.EveryText.{label_bytes, avoided_words, classed_text, coming_line};
 ghost use Rattle.pip_search_commands.specs.EveryText.{comes_text};
 ghost use Rattle.pip_search_commands.specs.EveryText.{coming_words, counts_words, must_words, windows_words};
-ghost use Rattle.pip_ways.specs.Texts.{spaced_run};
+ghost use Rattle.pip_every.specs.Texts.{spaced_run};
 
 use arrayvec::{ArrayString, ArrayVec};
-use pip_every::{Comes, MAX_LABEL};
+use pip_every::{Comes, MAX_LABEL, write_way};
 use pip_io::{Failed, Sink, write_all};
 use pip_script::push_decimal;
 use pip_search::Run;
-use pip_ways::write_way;
 
 /// Writes a line for each of these labels: what is said of it.
 pub fn write_coming<K: Sink>(

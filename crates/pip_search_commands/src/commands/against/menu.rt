@@ -10,9 +10,8 @@ use super::menu_line::{MenuKind, Question, question_of, read_label, read_said};
 use arrayvec::ArrayVec;
 use pip_base::never;
 use pip_every::{Asked, MAX_DEEDS, MAX_LABELS, May};
-use pip_input::{Input, LineEnd};
 use pip_io::{Joint, Sink, Source};
-use pip_script::split_word;
+use pip_script::{Input, LineEnd, split_word};
 
 /// What the lines of a menu say: the deeds of partitions, and what it asks.
 #[derive(Drop)]

@@ -1,6 +1,6 @@
 use Rattle.std.proofs.Common.{sym, subst}
 use Rattle.std.proofs.lemmas.Result.{on_ok_weaker}
-use Rattle.pip_asm_line.specs.Seen.{IsInRange, cell_of, statement_of}
+use Rattle.pip_asm.specs.Seen.{IsInRange, cell_of, statement_of}
 use Rattle.pip_asm.specs.Emitted.{SaysMore, StartsWith, first_head, line_words}
 use Rattle.pip_asm.proofs.Keeping.{says_cell, says_nothing}
 use Rattle.pip_asm.proofs.Standing.{stands}

@@ -1,5 +1,5 @@
 use Rattle.std.proofs.Common.{rules}
-use Rattle.pip_asm_line.specs.Seen.{statement_of}
+use Rattle.pip_asm.specs.Seen.{statement_of}
 use Rattle.pip_asm.proofs.Keeping.{line_keeps}
 use Rattle.pip_asm.proofs.reading.Passed.take_line.Goals as goal
 

@@ -1,5 +1,5 @@
 use Rattle.std.proofs.Common.{◌≡◌, ◌∙◌, ◌+◌, ◌-◌, ◌&&◌, Bool, ℕ, ap, arith, sym}
-use Rattle.pip_outside.specs.Tests.{all_from}
+use Rattle.pip_guests.specs.Tests.{all_from}
 use Rattle.pip_away.specs.Blind.{blind_of}
 use Rattle.pip_away.proofs.Reading.{all_later}
 use Rattle.pip_away.proofs.blind.Blind.has_block.Goals as goal

@@ -1,5 +1,5 @@
 use Rattle.std.proofs.Common.{◌≡◌, ◌+◌, ◌-◌}
-use Rattle.pip_outside.specs.Tests.{all_from}
+use Rattle.pip_guests.specs.Tests.{all_from}
 use Rattle.pip_away.specs.Blind.{blind_of}
 use Rattle.pip_away.proofs.blind.Blind.has_block.Given as goal
 

@@ -1,7 +1,7 @@
 use Rattle.std.proofs.Common.{ap, ◌∙◌, length, refl, subst}
 use Rattle.std.proofs.lemmas.List.{length-replicate}
 use Rattle.pip_base.specs.Memory.{zeros}
-use Rattle.pip_core_text.specs.CoreRead.{BeginsLines, IsText}
+use Rattle.pip_audit.specs.CoreRead.{BeginsLines, IsText}
 use Rattle.pip_io.proofs.Taken.{Keeps-refl}
 use Rattle.pip_commands.proofs.Audited.{ends_bad, ends_judged, ends_memory, ends_unread, refused_as}
 use Rattle.pip_commands.proofs.Audited.{text_shape, text_words}

@@ -1,6 +1,6 @@
 use Rattle.std.proofs.Common.{arith, false, inl, None, Some, Err, ap, subst}
-use Rattle.pip_dis.specs.Dues.{parts_due}
-use Rattle.pip_drive.specs.Ends.{Ends, EndsWith}
+use Rattle.pip_asm.specs.Dues.{parts_due}
+use Rattle.pip_io.specs.Ends.{Ends, EndsWith}
 use Rattle.pip_image.specs.Fed.{told}
 use Rattle.pip_command_contracts.specs.Streams.{streams}
 use Rattle.pip_model.specs.Images.{image_parts}

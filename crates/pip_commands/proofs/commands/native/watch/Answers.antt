@@ -2,8 +2,8 @@ use Rattle.std.proofs.Common.{rules, arith, ◌≡◌, ◌-◌, subst}
 use Rattle.std.proofs.lemmas.Result.{MatchResult-from_err}
 use Rattle.pip_lines.proofs.Progress.{Progress, progress_end}
 use Rattle.pip_switch.specs.Standing.{StandsAs}
-use Rattle.pip_native_run.specs.Watching.{watched_steps}
-use Rattle.pip_native_run.proofs.Steps.{step_cut, step_on, steps_begun}
+use Rattle.pip_native.specs.Watching.{watched_steps}
+use Rattle.pip_native.proofs.Steps.{step_cut, step_on, steps_begun}
 use Rattle.pip_commands.proofs.commands.native.watch.Goals as goal
 
 pub loop-i-init : goal.loop-i-init

@@ -2,7 +2,7 @@ use Rattle.std.proofs.Common.{◌≡◌, ◌-◌, length}
 use Rattle.pip_lines.proofs.Progress.{Progress}
 use Rattle.pip_model.specs.Worlds.{World}
 use Rattle.pip_switch.specs.Standing.{StandsAs}
-use Rattle.pip_native_run.specs.Watching.{watched_steps}
+use Rattle.pip_native.specs.Watching.{watched_steps}
 use Rattle.pip_commands.proofs.commands.native.watch.Given as goal
 
 abbrev pub invariant-loop-i : goal.invariant-loop-i

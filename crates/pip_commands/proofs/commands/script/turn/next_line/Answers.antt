@@ -1,6 +1,6 @@
 use Rattle.std.proofs.Common.{ℕ, List, Option, refl, subst}
 use Rattle.std.specs.Prelude.{MatchOption}
-use Rattle.pip_input.specs.Lines.{HoldsLine, HoldsPart, still}
+use Rattle.pip_script.specs.Lines.{HoldsLine, HoldsPart, still}
 use Rattle.pip_commands.proofs.commands.script.turn.next_line.Goals as goal
 
 pub returns-in-Some-clause-line : goal.returns-in-Some-clause-line

@@ -1,5 +1,5 @@
 use Rattle.std.proofs.Common.{Some, Err, subst, ap, refl}
-use Rattle.pip_input.specs.Lines.{HoldsLine, still}
+use Rattle.pip_script.specs.Lines.{HoldsLine, still}
 use Rattle.pip_commands.specs.declared.commands.script.line.ScriptLineError.TheVariants.{Bad}
 use Rattle.pip_commands.specs.declared.commands.script.turn.End.TheVariants.{Finished, Limit}
 use Rattle.pip_io.proofs.Taken.{Keeps-refl}

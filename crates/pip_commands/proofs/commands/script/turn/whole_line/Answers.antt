@@ -1,5 +1,5 @@
 use Rattle.std.proofs.Common.{rules, refl, subst}
-use Rattle.pip_input.specs.Lines.{HoldsLine, still}
+use Rattle.pip_script.specs.Lines.{HoldsLine, still}
 use Rattle.pip_io.proofs.Taken.{Keeps-refl}
 use Rattle.pip_commands.proofs.commands.script.turn.whole_line.Goals as goal
 

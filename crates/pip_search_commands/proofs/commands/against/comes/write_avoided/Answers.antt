@@ -1,7 +1,7 @@
 use Rattle.std.proofs.Common.{rules, ◌++◌}
 use Rattle.std.specs.Prelude.{codes, flat_map}
 use Rattle.std.proofs.lemmas.Result.{MatchResult-from_err}
-use Rattle.pip_ways.specs.Texts.{spaced_run}
+use Rattle.pip_every.specs.Texts.{spaced_run}
 use Rattle.pip_io.proofs.Piecewise.{part_after, part_longer, wrote_after, wrote_of}
 use Rattle.pip_search_commands.proofs.commands.against.comes.write_avoided.Goals as goal
 

@@ -1,5 +1,5 @@
 use Rattle.std.proofs.Common.{◌++◌, ◌∙◌, refl, subst, arith}
-use Rattle.pip_input.specs.Lines.{HoldsLine, IsLineless, still}
+use Rattle.pip_script.specs.Lines.{HoldsLine, IsLineless, still}
 use Rattle.pip_io.proofs.Pacing.{paced_after}
 use Rattle.pip_search_commands.specs.MenuReading.{BeginsMenu, menu_said}
 use Rattle.pip_search_commands.specs.MenuText.{line_said}

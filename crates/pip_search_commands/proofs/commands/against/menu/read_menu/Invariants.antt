@@ -1,5 +1,5 @@
 use Rattle.std.proofs.Common.{◌≡◌, ◌+◌, ◌-◌, ◌*◌, ◌^◌, ◌≤◌}
-use Rattle.pip_input.specs.Lines.{still}
+use Rattle.pip_script.specs.Lines.{still}
 use Rattle.pip_search_commands.specs.MenuReading.{menu_said}
 use Rattle.pip_search_commands.proofs.MenuReads.{IsAtLine}
 use Rattle.pip_search_commands.proofs.commands.against.menu.read_menu.Given as goal

@@ -1,4 +1,0 @@
-pub mod Cutting
-pub mod Counts
-pub mod Rooms
-pub mod Mnemonics

@@ -1,6 +1,0 @@
-use Rattle.std.proofs.Common.{◌≡◌, drop}
-use Rattle.pip_certificate_parts.specs.Sums.{label_sum, sum_bytes}
-use Rattle.pip_certificate_parts.proofs.sums.label_sum.Given as goal
-
-abbrev pub invariant-loop-byte : goal.invariant-loop-byte
-invariant-loop-byte l = sum_bytes l.sum (drop l.byte-index l.text) ≡ label_sum l.text

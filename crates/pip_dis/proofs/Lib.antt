@@ -1,5 +1,0 @@
-pub mod Joined
-pub mod Written
-pub mod Trimming
-pub mod Steps
-pub mod RowTexts

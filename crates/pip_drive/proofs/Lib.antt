@@ -1,3 +1,0 @@
-mod Buffers
-pub mod Driving
-mod Written

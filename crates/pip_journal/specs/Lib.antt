@@ -1,3 +1,0 @@
-pub mod Tracks
-pub mod Opening
-pub mod Changes

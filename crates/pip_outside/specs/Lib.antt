@@ -1,7 +1,0 @@
-pub mod Outside
-pub mod Unseen
-pub mod Turns
-pub mod Exits
-pub mod Sights
-pub mod Tests
-pub mod Entries

@@ -1,4 +1,0 @@
-use Rattle.pip_test_scripts.proofs.script.machine_is_handed_back.Given as goal
-
-abbrev pub ghosts-first_word : goal.ghosts-first_word
-ghosts-first_word g a = record { name = a.blank.name; parts = a.blank.parts }

@@ -1,7 +1,0 @@
-use Rattle.std.proofs.Common.{◌≡◌, map, take}
-use Rattle.pip_ways.specs.Told.{runs_to}
-use Rattle.pip_ways.proofs.ways.ways_of.Given as goal
-
-abbrev pub invariant-loop-k : goal.invariant-loop-k
-invariant-loop-k l = map (λ way. way.items) l.ways.items
-    ≡ runs_to l.fn.search.visits.items (take l.k l.fn.search.found.items)
