@@ -16,7 +16,7 @@ from dataclasses import dataclass
 
 from authors import asmx
 from common import FOLDERS, calling
-from common.calling import Failed
+from common.calling import Failed, ensure
 from . import judging, likeness
 
 SECONDS = 10
@@ -67,8 +67,7 @@ class OwnFiles(asmx.Files):
 
     def contents(self, path: str) -> bytes:
         self.count += 1
-        if self.count > asmx.MOST_FILES:
-            raise Failed(f"more than {asmx.MOST_FILES} files are included")
+        ensure(self.count <= asmx.MOST_FILES, f"more than {asmx.MOST_FILES} files are included")
         self.read.append(path)
         is_example = path.startswith(os.path.join(calling.REPOSITORY, "examples") + os.sep)
         return regular(path, not is_example)
@@ -76,17 +75,14 @@ class OwnFiles(asmx.Files):
 
 def regular(path: str, is_own: bool = True) -> bytes:
     """The bytes of a regular file. Where it is a student's own, no link leads there."""
-    if is_own and os.path.realpath(path) != os.path.normpath(path):
-        raise Failed(f"{path} is a link")
+    ensure(not is_own or os.path.realpath(path) == os.path.normpath(path), f"{path} is a link")
     try:
         with open(os.open(path, os.O_RDONLY | os.O_NOFOLLOW | os.O_NONBLOCK), "rb") as file:
-            if not stat.S_ISREG(os.fstat(file.fileno()).st_mode):
-                raise Failed(f"{path} is no regular file")
+            ensure(stat.S_ISREG(os.fstat(file.fileno()).st_mode), f"{path} is no regular file")
             text = file.read(calling.MOST + 1)
     except OSError as error:
         raise Failed(f"{path} can't be read: {error.strerror}") from None
-    if len(text) > calling.MOST:
-        raise Failed(f"{path} has more than {calling.MOST} bytes")
+    ensure(len(text) <= calling.MOST, f"{path} has more than {calling.MOST} bytes")
     return text
 
 

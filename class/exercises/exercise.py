@@ -10,7 +10,7 @@ import re
 import sys
 
 from common import calling
-from common.calling import Failed
+from common.calling import Failed, ensure
 from . import judging
 
 PAGE_OF = os.path.join(calling.REPOSITORY, "docs", "EXERCISES.md")
@@ -45,10 +45,9 @@ def work(given: argparse.Namespace) -> int:
     if given.name not in sections():
         raise Failed(f"there is no exercise {given.name!r}: {', '.join(sections())}" if given.name
                      else "which exercise? See --list")
-    if given.again and not re.fullmatch("[0-9a-f]{1,16}", given.again):
-        raise Failed(f"--again is at most 16 digits 0 to f, as a verdict has them, and not {given.again!r}")
-    if given.seed is not None and not given.seed.strip():
-        raise Failed("--seed is a student's name")
+    ensure(not given.again or re.fullmatch("[0-9a-f]{1,16}", given.again), "--again is at most 16 digits 0 to f, as a "
+           f"verdict has them, and not {given.again!r}")
+    ensure(given.seed is None or given.seed.strip(), "--seed is a student's name")
     if given.file is None:
         print(told(given.name, given.seed))
         return 0
@@ -65,11 +64,9 @@ def work(given: argparse.Namespace) -> int:
 
 def write_script(given: argparse.Namespace, text: bytes) -> int:
     """The whole script that is run for a student's lines."""
-    if given.name != "break-in":
-        raise Failed("--script is for break-in: of another exercise your script is the whole one")
+    ensure(given.name == "break-in", "--script is for break-in: of another exercise your script is the whole one")
     answer = judging.ask("script", given.name, given.seed, given.again or judging.drawn(), text)
-    if answer.startswith("cant "):
-        raise Failed(answer[len("cant "):].rstrip())
+    ensure(not answer.startswith("cant "), answer[len("cant "):].rstrip())
     if answer.startswith("refused "):
         raise Failed(f"line {answer.split()[1]} is refused: see tools/asmx --check {given.file}")
     sys.stdout.write(answer)

@@ -12,7 +12,7 @@ from concurrent.futures import ThreadPoolExecutor
 from dataclasses import dataclass, field
 
 from common import calling
-from common.calling import Failed
+from common.calling import Failed, ensure
 from judge import building
 from . import alone, judging, likeness
 
@@ -122,8 +122,7 @@ def found(folder: str, exercises: dict[str, judging.Exercise]) -> tuple[list[str
         files = [(student, file) for student in students for file in sorted(os.listdir(os.path.join(folder, student)))]
     except OSError as error:
         raise Failed(f"{error.filename or folder} can't be read: {error.strerror}") from None
-    if not students:
-        raise Failed(f"{folder} has no folder of a student")
+    ensure(students, f"{folder} has no folder of a student")
     works: dict[tuple[str, str], Work] = {}
     others = [(entry.path, "is a link, and no folder of a student" if entry.is_symlink() else
                "is in no student's folder") for entry in entries if entry.name not in students]
@@ -192,12 +191,8 @@ def csv_rows(table: Table) -> list[list[object]]:
                 if other != student]
         cells = (work.count if work else "" for work in works)
         rows.append([student, *cells, table.count(student), table.whole(student), "; ".join(like)])
-    return [[as_text(cell) for cell in row] for row in rows]
-
-
-def as_text(cell: object) -> object:
-    """A cell that no spreadsheet takes for a formula."""
-    return "'" * cell.startswith(FORMULA) + visible(cell) if isinstance(cell, str) else cell
+    return [["'" * cell.startswith(FORMULA) + visible(cell) if isinstance(cell, str) else cell for cell in row]
+            for row in rows]
 
 
 def visible(text: str) -> str:

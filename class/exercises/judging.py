@@ -10,7 +10,7 @@ from dataclasses import dataclass, field
 
 from authors import asmx, why
 from common import calling, meanings
-from common.calling import REPOSITORY, Failed
+from common.calling import REPOSITORY, ensure
 from debugger import sources
 from judge import building
 from common.machine import script
@@ -22,14 +22,12 @@ SOLUTIONS = os.path.join(REPOSITORY, "examples", "solutions")
 def ask(act: str, name: str = "", seed: str | None = None, secret: str = "", text: bytes = b"") -> str:
     """What the judge answers: class/judge/src/lib.rs says which lines."""
     seed = unicodedata.normalize("NFC", seed or "")      # a folder's name may have an accent beside its letter
-    if any("\n" in word for word in (name, seed, secret)):
-        raise Failed("a name and a seed have one line")
+    ensure(not any("\n" in word for word in (name, seed, secret)), "a name and a seed have one line")
     head = "\n".join((act, name, seed, secret, ""))
     program = building.JUDGE.path()
     with calling.running(program):
         done = subprocess.run([program], input=head.encode() + text, stdout=subprocess.PIPE)
-    if done.returncode:
-        raise Failed(f"the judge ends with status {done.returncode}")
+    ensure(not done.returncode, f"the judge ends with status {done.returncode}")
     return done.stdout.decode("utf-8", "replace")
 
 
@@ -130,8 +128,7 @@ def read(found: Judged, answer: str, path: str, is_program: bool, source: asmx.T
     trouble: list[str] = []
     for line in answer.splitlines():
         word, _, rest = line.partition(" ")
-        if word == "cant":
-            raise Failed(rest)
+        ensure(word != "cant", rest)
         if word == "refused":
             found.refused = refusal(found, rest, path, is_program, lines)
         elif word in ("yes", "no"):

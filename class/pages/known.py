@@ -9,7 +9,7 @@ from typing import Any
 
 from authors import why
 from common import meanings
-from common.calling import REPOSITORY, Failed
+from common.calling import REPOSITORY, there
 from exercises import exercise
 from common.machine import assembly, instructions, script
 from step import page
@@ -25,8 +25,8 @@ def facts() -> dict[str, Any]:
     """What the page has of the documents."""
     further: dict[bytes, tuple[int | None, ...]] = {b"boot": (script.WORD, script.WORD), b"call": ()}
     forms = {name.decode(): list(form) for name, form in {**script.FORMS, **further}.items()}
-    return {"statuses": list(meanings.statuses().values()), "calls": page.told_calls(), "vectors": meanings.vectors(),
-            "forms": forms, "causes": meanings.causes(), "assembly": of_assembly(), "ends": ends(),
+    return {"statuses": list(meanings.STATUSES.values()), "calls": page.told_calls(), "vectors": meanings.VECTORS,
+            "forms": forms, "causes": meanings.CAUSES, "assembly": of_assembly(), "ends": ends(),
             "most": MOST_EDITED, "texts": [*examples(), *exercises()]}
 
 
@@ -44,7 +44,7 @@ def of_assembly() -> dict[str, Any]:
 
 def ends() -> dict[str, str]:
     """Of each status of the program what it means, in short."""
-    found = {status: re.sub(r" \([^)]*\)", "", re.split("[:;]", when)[0]) for status, when in meanings.ends().items()}
+    found = {status: re.sub(r" \([^)]*\)", "", re.split("[:;]", when)[0]) for status, when in meanings.ENDS.items()}
     return {**found, "99": "the module stopped"}
 
 
@@ -76,9 +76,8 @@ def exercises() -> Iterator[dict[str, str | bool]]:
     """Each exercise with what it asks, and the text with which one begins: of a program the lines that each has. Some
     scripts are a part of what the judge runs."""
     for name, told in exercise.sections().items():
-        solution = next(EXAMPLES.joinpath("solutions").glob(f"{name}.*"), None)
-        if solution is None:
-            raise Failed(f"docs/EXERCISES.md has the exercise {name}, and examples/solutions has none of it")
+        solution = there(next(EXAMPLES.joinpath("solutions").glob(f"{name}.*"), None),
+                         f"docs/EXERCISES.md has the exercise {name}, and examples/solutions has none of it")
         is_script = solution.suffix == ".pip"
         yield {"name": "exercise " + name, "exercise": name, "group": "Exercises",
                "kind": "script" if is_script else "assembly", "text": "" if is_script else BEGINNING,

@@ -129,13 +129,10 @@ def told(path: str, line: int, lines: list[str], above: str, further: str, langu
     source = os.path.normpath(os.path.join(os.path.dirname(path), named[2])) if named else None
     if source and not source.startswith("examples/"):
         source = None
-    kind = of_mark(mark[1]) if mark else Kind.PLAIN if language else kind_of(lines, source)
+    of_marks = {"output of": Kind.OUTPUT, "menu": Kind.MENU}
+    kind = of_marks.get(mark[1], Kind.PLAIN) if mark else Kind.PLAIN if language else kind_of(lines, source)
     return Block(line, "".join(told + "\n" for told in lines), kind, source, bool(named and named[1]),
                  (mark[2] or "") if mark else "", language)
-
-
-def of_mark(word: str) -> Kind:
-    return {"output of": Kind.OUTPUT, "menu": Kind.MENU}.get(word, Kind.PLAIN)
 
 
 def kind_of(lines: list[str], source: str | None) -> Kind | None:
@@ -279,7 +276,7 @@ def joined(lines: Sequence[str]) -> str:
 
 
 def has_part(whole: Sequence[str], part: Sequence[str]) -> bool:
-    return any(whole[at:at + len(part)] == part for at in range(len(whole)))
+    return any(list(whole[at:at + len(part)]) == list(part) for at in range(len(whole)))
 
 
 def place(part: Sequence[str], whole: Sequence[str], block: Block) -> int:

@@ -20,7 +20,7 @@ from pathlib import Path
 
 from authors import asmx
 from common import calling
-from common.calling import Failed
+from common.calling import Failed, ensure
 from playground import module
 from . import known, rendering, searching
 from .known import TOP
@@ -79,8 +79,7 @@ def make(to: Path, made: Path | None, debian: Path | None) -> None:
             made = Path(place) / "pip.wasm"
             module.make(made, debian)
         binary = made.read_bytes()
-        if not binary.startswith(b"\0asm"):
-            raise Failed(f"{made} is no module of WebAssembly")
+        ensure(binary.startswith(b"\0asm"), f"{made} is no module of WebAssembly")
         files = Site().files(binary)
     if to.exists():
         shutil.rmtree(to)
@@ -117,8 +116,11 @@ class Site:
         self.assembled = {path: asmx.text_of(asmx.processed(str(TOP / path))[0]).decode()
                           for path, text in self.examples.items()
                           if path.endswith(".asmx") and re.search(r"(?m)^\.(frames|include) ", text)}
-        self.names = {path: page_of(path) for path in self.documents}
-        self.names.update((path, example_page(path)) for path in self.examples)
+        self.names = {path: path.replace("docs/", "").replace("/", "_").removesuffix("md") + "html"
+                      for path in self.documents}
+        self.names["README.md"] = "index.html"
+        self.names.update((path, "example_" + path[len("examples/"):].replace("/", "_") + ".html")
+                          for path in self.examples)
         self.exercises = {told["exercise"]: told for told in known.exercises()}
         self.used: dict[str, list[tuple[str, str]]] = {}       # where each example is shown: an address and a title
         self.elsewhere: set[str] = set()                       # linked files that aren't here
@@ -254,13 +256,11 @@ class Chapter:
         self.source = ""                           # the script or program that was shown last
 
     def page(self) -> Page:
-        made = rendering.rendered(self.document.text, self.block, self.led, self.after)
+        made = rendering.rendered(self.document.text, self.block, lambda link: self.site.led(self.path, link),
+                                  self.after)
         if self.path == GLOSSARY:
             made.body = TERM.sub(lambda found: self.term(made, found), made.body)
         return Page(self.site.names[self.path], made.title, made.body, short(self.path), made.headings, made.sections)
-
-    def led(self, link: str) -> str:
-        return self.site.led(self.path, link)
 
     def term(self, made: Rendered, found: re.Match[str]) -> str:
         """A row of the glossary, which the search finds by its term."""
@@ -270,17 +270,16 @@ class Chapter:
         return f'<tr id="{PREFIX}{name}">{found[0][len("<tr>"):]}'
 
     def block(self, found: Rendered, line: int, text: str) -> str:
-        at = self.places.get(line)
+        at = self.places.get(line, -1)
         where = f"{self.path}:{line}"
-        if at is None or self.document.blocks[at].text != text:
-            raise Failed(f"{where}: two readers of Markdown see different blocks")
+        ensure(at >= 0 and self.document.blocks[at].text == text, f"{where}: two readers of Markdown see "
+               "different blocks")
         block = self.document.blocks[at]
         try:
             runs = self.document.runs(at)
         except Wrong as wrong:
             raise Failed(f"{self.path}: {wrong}") from None
-        if block.kind is None:
-            raise Failed(f"{where}: nothing tells what this block is")
+        ensure(block.kind is not None, f"{where}: nothing tells what this block is")
         if block.source:
             _, title, name = found.headings[-1]
             self.site.used.setdefault(block.source, []).append(
@@ -326,14 +325,6 @@ def run(where: str, block: Block, runs: Runs, page: str | None = None) -> str:
 def element(told: dict[str, object], shown: str) -> str:
     data = html.escape(json.dumps(told, ensure_ascii=False))
     return f'<div class="run" data-run="{data}"><pre class="code" tabindex="0">{shown}</pre></div>\n'
-
-
-def page_of(path: str) -> str:
-    return "index.html" if path == "README.md" else path.replace("docs/", "").replace("/", "_")[:-3] + ".html"
-
-
-def example_page(path: str) -> str:
-    return "example_" + path[len("examples/"):].replace("/", "_") + ".html"
 
 
 def short(path: str) -> str:

@@ -9,7 +9,7 @@ import tempfile
 from pathlib import Path
 
 from common import calling
-from common.calling import Failed
+from common.calling import ensure, there
 from exporter.building import Program, run
 from judge.building import JUDGE
 
@@ -39,9 +39,8 @@ def take_debian(parser: argparse._ActionsContainer) -> None:
 
 
 def make(to: Path, debian: Path | None) -> None:
-    compiler = compiler_of(debian)
-    if compiler is None:
-        raise Failed(f"cargo can't make a module: say 'rustup target add {TARGET}', or give --debian")
+    compiler = there(compiler_of(debian), f"cargo can't make a module: say 'rustup target add {TARGET}', or give "
+                     "--debian")
     with tempfile.TemporaryDirectory() as name:
         place = Path(name)
         MODULE.write(place, JUDGE)
@@ -88,8 +87,7 @@ def sysroot() -> Path | None:
 def of_debian(place: Path) -> Compiler:
     """The compiler of packages that `dpkg -x` has put into a folder. Its library for the target is built there once."""
     rustc = place / "usr" / "bin" / "rustc"
-    if not rustc.exists():
-        raise Failed(f"{place} has no usr/bin/rustc: unpack rustc-web and what it needs there")
+    ensure(rustc.exists(), f"{place} has no usr/bin/rustc: unpack rustc-web and what it needs there")
     compiler = {"RUSTC": str(rustc), "LD_LIBRARY_PATH": str(place / "usr" / "lib" / "x86_64-linux-gnu"),
                 f"CARGO_TARGET_{TARGET.upper().replace('-', '_')}_LINKER": linker()}
     if not (place / "usr" / "lib" / "rustlib" / TARGET / "lib" / "liballoc.rlib").exists():
@@ -101,16 +99,13 @@ def linker() -> str:
     """rust-lld of the compiler in the PATH, or wasm-ld."""
     root = sysroot()
     own = root / "lib" / "rustlib" / HOST / "bin" / "rust-lld" if root else None
-    path = str(own) if own and own.exists() else shutil.which("wasm-ld")
-    if not path:
-        raise Failed("there is no linker: neither rust-lld of a compiler in the PATH, nor wasm-ld of the package lld")
-    return path
+    return there(str(own) if own and own.exists() else shutil.which("wasm-ld"),
+                 "there is no linker: neither rust-lld of a compiler in the PATH, nor wasm-ld of the package lld")
 
 
 def build_library(place: Path, compiler: Compiler) -> None:
-    sources = next((place / "usr" / "src").glob("rustc-*/library"), None)
-    if sources is None:
-        raise Failed(f"{place} has no usr/src/rustc-*/library: unpack rust-web-src there")
+    sources = there(next((place / "usr" / "src").glob("rustc-*/library"), None),
+                    f"{place} has no usr/src/rustc-*/library: unpack rust-web-src there")
     out = place / "usr" / "lib" / "rustlib" / TARGET / "lib"
     out.mkdir(parents=True, exist_ok=True)
     for name, source, features, needs in LIBRARY:

@@ -9,7 +9,7 @@ import sys
 
 from authors import asmx
 from common import calling
-from common.calling import Failed
+from common.calling import ensure
 from . import page, states
 
 MOST_STEPS = 10_000_000
@@ -35,12 +35,10 @@ def main() -> None:
 
 
 def write(given: argparse.Namespace) -> None:
-    if given.steps is not None and given.seed is None:
-        raise Failed("of an image the steps and the seed are both needed")
+    ensure(given.steps is None or given.seed is not None, "of an image the steps and the seed are both needed")
     if given.steps is None:
         text = calling.contents(given.file, asmx.MOST_IMAGE)
-        if text.startswith(b"PIPIMG"):
-            raise Failed(f"{given.file} is an image: say how many steps, and the seed")
+        ensure(not text.startswith(b"PIPIMG"), f"{given.file} is an image: say how many steps, and the seed")
         found = states.of_script(given.program, text, given.last)
     else:
         first = calling.number(given.first, 0, given.steps, "--from")

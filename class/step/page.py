@@ -5,7 +5,6 @@ from __future__ import annotations
 import html
 import itertools
 import json
-import os
 import re
 from pathlib import Path
 from typing import Any
@@ -13,7 +12,6 @@ from typing import Any
 from common import meanings
 from . import states, walk
 
-HERE = os.path.dirname(os.path.abspath(__file__))
 FILES = r"/\* ([a-z]+\.(?:css|js)) \*/|<!-- ([a-z]+\.html) -->"      # where another file stands
 
 
@@ -68,13 +66,13 @@ def data(title: str, found: list[states.State]) -> dict[str, Any]:
     return {"title": title, "frames": found[0].frames, "partitions": partitions.values, "trees": trees.values,
             "grids": grids.values, "registers": registers.values, "steps": steps, "contents": frames.contents.values,
             "words": frames.found, "calls": told_calls(),
-            "statuses": [name for name, _ in meanings.statuses().values()]}
+            "statuses": [name for name, _ in meanings.STATUSES.values()]}
 
 
 def told_calls() -> dict[int, list[Any]]:
     """Of each call by its number its name, and its arguments as FORMATS.md has them."""
     made: dict[int, list[Any]] = {}
-    for number, (name, arguments) in meanings.calls().items():
+    for number, (name, arguments) in meanings.CALLS.items():
         parts = arguments.split(": ")[-1].split(", ")
         made[number] = [name, [] if parts == ["none"] else parts]
     return made
@@ -93,20 +91,13 @@ def runs(kinds: list[tuple[str, int]]) -> list[list[int | str]]:
 
 
 def written(title: str, found: list[states.State]) -> str:
-    """The page as a text."""
-    return filled("page.html", [HERE],
-                  {"TITLE": html.escape(title, quote=True), "/* data */": as_data(data(title, found))})
+    """The page as a text. Its data can't end the script in which they stand: each `<` is written as an escape."""
+    told = json.dumps(data(title, found), separators=(",", ":"), ensure_ascii=True).replace("<", "\\u003c")
+    return filled("page.html", {"TITLE": html.escape(title, quote=True), "/* data */": told})
 
 
-def as_data(told: object) -> str:
-    """A value as JSON that can't end the script that it stands in: each `<` is written as an escape."""
-    return json.dumps(told, separators=(",", ":"), ensure_ascii=True).replace("<", "\\u003c")
-
-
-def filled(name: str, folders: list[str], told: dict[str, str]) -> str:
-    """A file of the first folder that has it, with each mark replaced: those of `told`, and names of other files."""
-    def put(found: re.Match[str]) -> str:
-        return told[found.group()] if found.group() in told else filled(found.group(1) or found.group(2), folders, told)
-    text = next(path for folder in folders if (path := Path(folder, name)).exists()).read_text(encoding="utf-8")
+def filled(name: str, told: dict[str, str]) -> str:
+    """A file of this folder with each mark replaced: those of `told`, and names of other files."""
     marks = "|".join(map(re.escape, told))
-    return re.sub(f"{FILES}|{marks}", put, text)
+    return re.sub(f"{FILES}|{marks}", lambda found: told[found[0]] if found[0] in told else filled(
+        found[1] or found[2], told), Path(__file__).with_name(name).read_text(encoding="utf-8"))

@@ -9,7 +9,7 @@ from concurrent.futures import ThreadPoolExecutor
 from typing import NamedTuple, Optional
 
 from authors import trace
-from common.calling import Failed, text_of
+from common.calling import Failed, ensure, text_of
 from common.meanings import outcome_of
 from common.draw import texts
 from common.machine import image as images, runs, script
@@ -88,8 +88,7 @@ def script_states(asked: Asked, text: bytes, last: int | None) -> list[State]:
             check_audit(asked.program, states[-1])
         looked += again * walk.WORDS + (0 if before else sum(3 + len(x.tables) for x in states[-1].tree) * walk.WORDS)
         remarks = []
-    if not states:
-        raise Failed("the script has no line with an answer")
+    ensure(states, "the script has no line with an answer")
     return states
 
 
@@ -102,8 +101,7 @@ def may_change(line: bytes, answer: str) -> bool:
 
 def last_state(states: list[State], place: int, told: str, remarks: list[str], answer: str) -> State:
     """The state of the line before, with a bad line."""
-    if not states:
-        raise Failed(answer)
+    ensure(states, answer)
     return states[-1]._replace(place=place, told=told, remarks=remarks, answer=answer)
 
 
@@ -124,16 +122,16 @@ def script_state(asked: Asked, state: State, names: list[int], before: State | N
     tree, words = walk.again(looker, before.tree, before.words) if before else (walk.partitions(looker), looker.seen)
     cpus: Cpus = [(name, asked.registers(cpu)) for cpu, name in enumerate(names)]
     for cpu, (name, registers) in enumerate(cpus):
-        if (registers is None) != (name == 0):
-            raise Failed(f"line {state.place}: 'reg' and the switches differ on what processor {cpu} does")
+        ensure((registers is None) == (name == 0), f"line {state.place}: 'reg' and the switches differ on what "
+               f"processor {cpu} does")
     return state._replace(cpus=cpus, tree=tree, words=words)
 
 
 def check_audit(program: str, state: State) -> None:
     """The tree read off the words that were seen has to be the one that `audit` finds in them."""
     told = text_of(program, ["audit", str(state.frames)], walk.core_text(state.words).encode())
-    if told != walk.tree_lines(state.tree) + ["yes"]:
-        raise Failed(f"line {state.place}: the tree read off the frames isn't the one that 'audit' finds")
+    ensure(told == walk.tree_lines(state.tree) + ["yes"], f"line {state.place}: the tree read off the frames isn't the "
+           "one that 'audit' finds")
 
 
 # An image
@@ -141,8 +139,7 @@ def check_audit(program: str, state: State) -> None:
 def of_image(program: str, image: bytes, first: int, steps: int, seed: int, jobs: int | None = None,
              source: str | None = None) -> list[State]:
     """A state at step `first`, and after each step from then on. `steps` is the last one."""
-    if steps - first + 1 > MOST_STATES:
-        raise Failed(f"{MANY}: begin later, with --from {steps - MOST_STATES + 1}")
+    ensure(steps - first + 1 <= MOST_STATES, f"{MANY}: begin later, with --from {steps - MOST_STATES + 1}")
     lines = text_of(program, ["run", str(steps), str(seed)], image)
     frames, cpus = (int(word) for word in lines[0].split()[1:3])
     told = dict(line.split(" ", 1) for line in lines[1:-1])
@@ -185,8 +182,8 @@ def read_off(frames: int, step: int, tree: str, core: str) -> tuple[list[walk.Pa
     """The words of `core`, and the tree read off them, which has to be that of the command `tree`."""
     words: walk.Words = {**{frame: {} for frame in range(frames)}, **texts.memory(core)}
     found = walk.partitions(walk.of_memory(words))
-    if "\n".join(walk.tree_lines(found)) != tree:
-        raise Failed(f"step {step}: what 'tree' and 'core' say of the partitions differs")
+    ensure("\n".join(walk.tree_lines(found)) == tree, f"step {step}: what 'tree' and 'core' say of the partitions "
+           "differs")
     return found, words
 
 
@@ -231,8 +228,7 @@ def watched(data: bytes, first: int, count: int, seed: int, source: str | None, 
         lines += shown
         if turn.step + 1 >= first:
             found.append((did(turn, names, [line.split(" ", 2)[2] for line in shown]), registers_of(world)))
-    if lines != due:
-        raise Failed("the reference, which the registers come from, has other lines than the program")
+    ensure(lines == due, "the reference, which the registers come from, has other lines than the program")
     return found
 
 

@@ -8,7 +8,7 @@ import tempfile
 from collections.abc import Sequence
 
 from common import calling
-from common.calling import REPOSITORY, Failed
+from common.calling import REPOSITORY, ensure, there
 
 PROGRAM = os.path.join(REPOSITORY, "crates", "pip", "out", "pip")
 COLLECTED = re.compile(rb"Collected : (\d+)")
@@ -26,17 +26,15 @@ class Counted:
     a folder of their own."""
 
     def __init__(self, path: str = PROGRAM, is_both: bool = False) -> None:
-        valgrind = shutil.which("valgrind")
-        if valgrind is None:
-            raise Failed("valgrind is needed: its callgrind counts the instructions")
+        valgrind = there(shutil.which("valgrind"), "valgrind is needed: its callgrind counts the instructions")
         self.folder = tempfile.TemporaryDirectory()
         self.path = self.copied(path, "pip")
         self.lab = self.copied(path if is_both else calling.lab(path), "lab")
         self.command = [valgrind, "--tool=callgrind", "--callgrind-out-file=/dev/null"]
 
     def copied(self, path: str, name: str) -> str:
-        if not os.access(path, os.X_OK):
-            raise Failed(f"there is no program at {path}: build it by ./{name}, or name one by --program")
+        ensure(os.access(path, os.X_OK), f"there is no program at {path}: build it by ./{name}, or name one by "
+               "--program")
         copy = os.path.join(self.folder.name, name)
         shutil.copy(path, copy)
         return copy
@@ -54,12 +52,8 @@ class Counted:
             done = subprocess.run([*self.command, f"./{os.path.basename(path)}", *given], stdin=file,
                                   cwd=self.folder.name, env=ENVIRONMENT, stdout=subprocess.DEVNULL,
                                   stderr=subprocess.PIPE)
-        if done.returncode:
-            raise Failed(f"the program ends with status {done.returncode}")
-        found = COLLECTED.search(done.stderr)
-        if found is None:
-            raise Failed("valgrind says no count")
-        return int(found[1])
+        ensure(not done.returncode, f"the program ends with status {done.returncode}")
+        return int(there(COLLECTED.search(done.stderr), "valgrind says no count")[1])
 
     def written(self, text: bytes, *words: str) -> bytes:
         """What the program writes."""

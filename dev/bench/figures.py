@@ -38,8 +38,6 @@ ASSEMBLY = ("li r1 7", "sltu r10 r11 r12", "bltu r1 r2 here", ".word 7", ".zero 
             "# counts how many pages are left in the list", "")
 
 
-
-
 def script(setup: str, lines: str, count: int) -> bytes:
     """The lines of the setup, and then the other lines that many times."""
     return (setup + "\n" + (lines + "\n") * count).encode()
@@ -76,10 +74,6 @@ class Figures:
         few, many = 1000 // events, 11000 // events
         return self.more(script(setup, lines, few), script(setup, lines, many)) // (many - few) // events
 
-    def once(self, setup: str, line: str) -> int:
-        """The instructions of one line after the others."""
-        return self.more(script(setup, "", 0), script(setup, line, 1))
-
     def deleted(self, case: str) -> int:
         """The instructions of the line that deletes."""
         before, with_it = deletions.scripts(case)
@@ -91,9 +85,9 @@ class Figures:
                       for count in (few, many))
         return (more - less) // 100000
 
-    def assembled(self, name: str, folder: str = "examples") -> bytes:
+    def assembled(self, path: str) -> bytes:
         """The image of a text."""
-        return self.program.written(calling.contents(os.path.join(REPOSITORY, folder, name)), "asm")
+        return self.program.written(calling.contents(os.path.join(REPOSITORY, path)), "asm")
 
     def figures(self) -> Iterator[Figure]:
         for part in (self.of_lines, self.of_partitions, self.of_switches, self.of_texts, self.of_steps, self.of_frames):
@@ -114,7 +108,8 @@ class Figures:
     def of_partitions(self) -> Iterator[Figure]:
         yield "`call 0 0` with five pages, an accepted createPartition of the root", \
             self.more(creations(100), creations(700)) // 600
-        yield "the same by a child of the root", self.once(FAMILY, deletions.call(0, *deletions.CHILD_PAGES[:5]))
+        creation = deletions.call(0, *deletions.CHILD_PAGES[:5])
+        yield "the same by a child of the root", self.more(script(FAMILY, "", 0), script(FAMILY, creation, 1))
         for case, name in DELETED.items():
             yield name, self.deleted(case)
 
@@ -140,14 +135,14 @@ class Figures:
 
     def of_steps(self) -> Iterator[Figure]:
         """The steps of the sample monitor, of programs that compute, load and store, of children, and of slots."""
-        monitor, children = self.assembled("monitor.s"), self.assembled("preempted_beside_a_loop.s")
+        monitor, children = (self.assembled(f"examples/{name}.s") for name in ("monitor", "preempted_beside_a_loop"))
         yield "a step of the sample monitor by `run`, with its trace", self.step(monitor, "run", "STEPS", "1")
         yield "the same by `tree`, without its trace", self.step(monitor, "tree", "STEPS", "1")
         for what, name in (("a step that computes, in a loop of eight instructions", "computes.s"),
                            ("a step of a program of seven loads and stores and a branch", "accesses.s")):
-            yield what, self.step(self.assembled(name, "bench"), "run", "STEPS", "1")
+            yield what, self.step(self.assembled(f"dev/bench/{name}"), "run", "STEPS", "1")
         yield "a step of `native 3` over `examples/native.s`", \
-            self.step(self.assembled("native.s"), "native", "3", "STEPS")
+            self.step(self.assembled("examples/native.s"), "native", "3", "STEPS")
         yield "a step of `native 2` over `examples/preempted_beside_a_loop.s`", \
             self.step(children, "native", "2", "STEPS")
         yield "a step of `slots 2 48` over the same, with the same turns", \

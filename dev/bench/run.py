@@ -17,18 +17,13 @@ import os
 from collections.abc import Iterator
 
 from common import calling
-from common.calling import REPOSITORY, Failed
+from common.calling import REPOSITORY, ensure
 from reference import plain
 from . import deletions, slopes, timing
 from .count import PROGRAM, Counted
 from .figures import Figures
 
 PAGE = os.path.join(REPOSITORY, "docs", "PERFORMANCE.md")
-
-
-def shown(what: str, ours: int, other: int | None) -> str:
-    beside = "" if other is None else f" {other:10} {ours / other:6.2f}"
-    return f"{what:90} {ours:10}{beside}"
 
 
 def show(given: argparse.Namespace) -> None:
@@ -38,8 +33,7 @@ def show(given: argparse.Namespace) -> None:
         growth(Figures(program))
         return
     if given.tables or given.slopes:
-        if path is None:
-            raise Failed("the tables have two programs: add --plain or --beside PATH")
+        ensure(path is not None, "the tables have two programs: add --plain or --beside PATH")
         both = program, Counted(path, is_both=True)
         for row in slopes.rows(*both) if given.slopes else tables(*both):
             print(row, flush=True)
@@ -47,7 +41,8 @@ def show(given: argparse.Namespace) -> None:
     print(f"{'instructions of':90} {'ours':>10}" + ("" if path is None else f" {'beside':>10} {'times':>6}"))
     others = None if path is None else Figures(Counted(path, is_both=True)).figures()
     for what, ours in Figures(program).figures():
-        print(shown(what, ours, None if others is None else next(others)[1]), flush=True)
+        beside = next(others)[1] if others else 0
+        print(f"{what:90} {ours:10}" + (f" {beside:10} {ours / beside:6.2f}" if others else ""), flush=True)
 
 
 def tables(ours: Counted, plain: Counted) -> Iterator[str]:

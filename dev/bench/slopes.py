@@ -10,62 +10,59 @@ from typing import NamedTuple
 
 from common.machine import runs, script
 from .count import Counted
-from .timing import Input, example, lines
+from .timing import example, keys
 
 SIZES = (100, 1000, 10_000, 100_000)
 
 
 class Growing(NamedTuple):
-    """A command over inputs of sizes: its words, and the input of a size."""
+    """A command over inputs of sizes: its words, with {} for the size, and the input of a size."""
 
     what: str
-    words: Callable[[int], str]
-    text: Callable[[int], Input]
+    words: str
+    text: Callable[[Counted, int], bytes]
     sizes: tuple[int, ...] = SIZES
 
 
-def repeated(head: str, line: str) -> Callable[[int], Input]:
-    return lambda count: lambda program: (head + f"{line}\n" * count).encode()
+def repeated(head: str, line: str) -> Callable[[Counted, int], bytes]:
+    return lambda program, count: (head + f"{line}\n" * count).encode()
 
 
-def assembled(count: int) -> Input:
+def assembled(program: Counted, count: int) -> bytes:
     """That many instructions, a thousand a page."""
     pages = (f".page {0x400000 + 4096 * page:#x}\n" + "li r1 5\n" * min(1000, count - 1000 * page)
              for page in range((count + 999) // 1000))
-    text = ".frames 1024\n.cpus 1\n" + "".join(pages)
-    return lambda program: text.encode()
+    return (".frames 1024\n.cpus 1\n" + "".join(pages)).encode()
 
 
-def children(count: int) -> Input:
+def children(program: Counted, count: int) -> bytes:
     """The text of a memory whose root has that many children."""
-    def text(program: Counted) -> bytes:
-        told = script.Script()
-        told.line(b"boot 4096 1")
-        for child in range(count):
-            pages = " ".join(f"{0x400000 + 4096 * (5 * child + page):#x}" for page in range(5))
-            told.line(f"call 0 0 {pages}".encode())
-        assert told.world is not None
-        return "".join(f"{line}\n" for line in [*runs.core_lines(told.world.tree), "end 0"]).encode()
-    return text
+    told = script.Script()
+    told.line(b"boot 4096 1")
+    for child in range(count):
+        pages = " ".join(f"{0x400000 + 4096 * (5 * child + page):#x}" for page in range(5))
+        told.line(f"call 0 0 {pages}".encode())
+    assert told.world is not None
+    return "".join(f"{line}\n" for line in [*runs.core_lines(told.world.tree), "end 0"]).encode()
 
 
-def always(words: str) -> Callable[[int], str]:
-    return lambda size: words
+def monitor(program: Counted, count: int) -> bytes:
+    return example(program, "examples/monitor.s")
 
 
 GROWING = (
-    Growing("lines `ld` of a script", always("script"), repeated("boot 16 1\n", "ld 0 0x400000")),
-    Growing("lines `li` of an assembly text", always("asm"), assembled),
-    Growing("remarks of an assembly text", always("asm"), repeated(".frames 16\n.cpus 1\n", "# a remark")),
-    Growing("steps of `run`", lambda size: f"run {size} 1", lambda size: example("monitor.s")),
-    Growing("states of `every`", lambda size: f"every {size}", lambda size: example("monitor.s")),
-    Growing("children of a memory by `audit`", always("audit 4096"), children, (1, 8, 80, 800)),
-    Growing("lines of `merge`", always("merge"), lines),
+    Growing("lines `ld` of a script", "script", repeated("boot 16 1\n", "ld 0 0x400000")),
+    Growing("lines `li` of an assembly text", "asm", assembled),
+    Growing("remarks of an assembly text", "asm", repeated(".frames 16\n.cpus 1\n", "# a remark")),
+    Growing("steps of `run`", "run {} 1", monitor),
+    Growing("states of `every`", "every {}", monitor),
+    Growing("children of a memory by `audit`", "audit 4096", children, (1, 8, 80, 800)),
+    Growing("lines of `merge`", "merge", lambda program, count: keys(program, str(count))),
 )
 
 
 def counts(growing: Growing, program: Counted) -> list[int]:
-    found = [program.instructions(growing.text(size)(program), *growing.words(size).split())
+    found = [program.instructions(growing.text(program, size), *growing.words.format(size).split())
              for size in growing.sizes]
     return [count - found[0] for count in found[1:]]
 

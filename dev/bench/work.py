@@ -15,7 +15,7 @@ from collections.abc import Iterator
 from pathlib import Path
 
 from common import calling
-from common.calling import Failed
+from common.calling import ensure
 from exporter.building import Program
 from reference import generate
 from . import worst
@@ -59,8 +59,7 @@ def scripts(files: list[str], seeds: int) -> Iterator[tuple[str, bytes]]:
 def counted(program: str, name: str, text: bytes) -> Iterator[tuple[float, str, str]]:
     """The share of its bound that the worst event of each kind reads in a script, the kind, and what is said of it."""
     done = subprocess.run([program], input=text, stdout=subprocess.PIPE, stderr=subprocess.PIPE)
-    if done.returncode:
-        raise Failed(f"{name}: {done.stderr.decode().strip().splitlines()[1:2]}")
+    ensure(not done.returncode, f"{name}: {done.stderr.decode().strip().splitlines()[1:2]}")
     for line in done.stdout.decode().splitlines():
         reads, bound, at, share, kind = line.split(" ", 4)
         yield float(share), kind, f"{reads} of {bound} in line {at} of {name}"

@@ -161,9 +161,4 @@ def lines(kind: str, *words: str) -> Iterator[str]:
 def main() -> None:
     if not sys.argv[1:] or sys.argv[1] not in KINDS:
         sys.exit(__doc__)
-    calling.guarded("worst.py", show)
-
-
-def show() -> None:
-    for line in lines(*sys.argv[1:]):
-        print(line)
+    calling.guarded("worst.py", lambda: sys.stdout.writelines(f"{line}\n" for line in lines(*sys.argv[1:])))

@@ -6,8 +6,7 @@ from unittest import mock
 
 from authors import why
 from reference import commands as reference, generate
-from .running import (REPOSITORY, Differs, contents, needed, number_of, paths, run, same, says, session, stand_ins,
-                      write)
+from .running import REPOSITORY, contents, ensure, needed, number_of, paths, run, same, says, session, stand_ins, write
 
 CASES = 300
 
@@ -32,12 +31,12 @@ def preprocessor(program: str) -> None:
         built = os.path.join(place, "out.img")
         for path in programs():
             says(program, ("asmx", path, "--image", built))
-            if contents(built) != run([program, "asm"], contents(path))[0]:
-                raise Differs(f"tools/asmx {path}: the image isn't that of 'asm'")
+            ensure(contents(built) == run([program, "asm"], contents(path))[0], f"tools/asmx {path}: the image isn't "
+                   "that of 'asm'")
         says(program, ("asmx", "tools/authors/elsewhere.asmx", "--image", built))
         trace, _ = run([program, "run", "60", "1"], contents(built))
-        if b"out 0x0000002a" not in trace or b"out 0xffc00008" not in trace:
-            raise Differs(f"tools/asmx: the program doesn't show 42 and the child's address of its name: {trace!r}")
+        ensure(b"out 0x0000002a" in trace and b"out 0xffc00008" in trace, "tools/asmx: the program doesn't show 42 and "
+               f"the child's address of its name: {trace!r}")
         says(program, ("asmx", "tools/authors/race.asmx", "--image", built))
         traces = [run([program, "run", "600", seed], contents(built))[0] for seed in ("2", "3")]
         same("what race.asmx shows", [b"out 0x00000020" in traces[0], b"out 0x0000001f" in traces[1]], [True, True])
@@ -55,10 +54,10 @@ def reasons(program: str) -> None:
                 refused += 1
                 place = output.decode().rsplit("bad line ", 1)[1].split()[0]
                 sentences, _ = why.why(program, "text", text, command == "asm")
-                if not sentences[0].startswith(f"text:{place}:") or "\nrule: " not in "\n".join(sentences):
-                    raise Differs(f"tools/asmx --check, {command} of seed {seed}: {sentences}")
-        if refused < CASES // 50:
-            raise Differs(f"tools/asmx --check: only {refused} of the generated texts of {command} are refused")
+                ensure(sentences[0].startswith(f"text:{place}:") and "\nrule: " in "\n".join(sentences),
+                       f"tools/asmx --check, {command} of seed {seed}: {sentences}")
+        ensure(refused >= CASES // 50, f"tools/asmx --check: only {refused} of the generated texts of {command} are "
+               "refused")
     session("check", program)
 
 
@@ -88,8 +87,7 @@ def interleavings(program: str) -> None:
 def ways_to_lines(program: str, race: str) -> None:
     lost = number_of(says(program, ("every", race, "10000")), " out 0x00000002: ")
     told = says(program, ("every", race, "10000", "--script", lost), 0, "raise 0", "answers of the reference")
-    if run([program, "script"], told.encode())[1]:
-        raise Differs(f"tools/every --script: the program refuses {told[-300:]!r}")
+    ensure(not run([program, "script"], told.encode())[1], f"tools/every --script: the program refuses {told[-300:]!r}")
     with tempfile.TemporaryDirectory() as place:
         ways_of_an_image(program, race, lost, place)
         ways_with_a_menu(program, os.path.join(place, "served.img"))

@@ -13,12 +13,11 @@ from pathlib import Path
 
 from certifier.certify import CHECK_PARTS
 from common import calling
-from common.calling import Failed
 from debugger.building import SEARCHES
 from reference import generate_parts, parts, plain
 from common.machine import image as images
 from . import examples
-from .running import Differs, contents, expect, needed, run, same, says
+from .running import contents, ensure, expect, needed, run, same, says
 
 PLANTED = 1000                   # certificates with something wrong, at least
 MOST_CHECKED = 60                # parts with a wrong mark, a wrong way or a wrong text that are checked of an example
@@ -35,8 +34,8 @@ def certificates(program: str) -> None:
         expect(f"{name}: the merge", run([calling.lab(program), "merge"], b"".join(merged)), (said(about, told), 0))
         for tried, (what, wrong) in enumerate(wrong_certificates(program, name, first, image, texts, lines), tried + 1):
             answer, status = run([calling.lab(program), "merge"], b"".join(wrong))
-            if status not in (2, 9):
-                raise Differs(f"{name}: a wrong certificate ({what}) ends with status {status}: {answer.decode()}")
+            ensure(status in (2, 9), f"{name}: a wrong certificate ({what}) ends with status {status}: "
+                   f"{answer.decode()}")
         for text in texts:
             has_one_text(chance, program, name, first, image, text)
         if states < 200:
@@ -45,8 +44,7 @@ def certificates(program: str) -> None:
                 expect(f"{name}: the lines of a part", plain.told(["part", str(first)], image + text),
                        (b"".join(own), 0))
     goes_on(program, image)
-    if tried < PLANTED:
-        raise Differs(f"{tried} wrong certificates were tried, which are less than {PLANTED}")
+    ensure(tried >= PLANTED, f"{tried} wrong certificates were tried, which are less than {PLANTED}")
 
 
 def goes_on(program: str, image: bytes) -> None:
@@ -65,33 +63,21 @@ def goes_on(program: str, image: bytes) -> None:
         says(program, (*words, "60"), 2, "parts of another image")
 
 
-def built() -> str:
-    needed("cargo")
-    try:
-        return SEARCHES.path()
-    except Failed as failed:
-        raise Differs(str(failed)) from None
-
-
 def cut(program: str, most: int = 1000000) -> Iterator[tuple[str, bytes, int, list[str], list[bytes]]]:
-    """Each of these examples of at most so many states: the name, the image, FROM, the text, and some five parts."""
-    engine = built()
-    for name, image, words, told in closing(program):
-        first, states = int((words[2:] or ["0"])[0]), int(told[-1].split()[1])
-        if states <= most:
+    """Each example of at most so many states whose search closes from the first moment on: the name, the image, FROM,
+    the text, and some five parts."""
+    needed("cargo")
+    engine = SEARCHES.path()
+    for path, name, image, _ in examples.searched(program, "every"):
+        words, *told = contents(path).decode().splitlines()
+        states = int(told[-1].split()[1])
+        if told[-1].endswith(" closed") and " after " not in words and states <= most:
+            first = int((words.split()[2:] or ["0"])[0])
             with tempfile.TemporaryDirectory() as folder:
                 size = str(max(states // 5, 2))
                 same(f"{name}: the end of the cut",
                      run([engine, "cut", str(first), size, "1000000", "3", folder], image)[1], 0)
                 yield name, image, first, told, [path.read_bytes() for path in sorted(Path(folder).iterdir())]
-
-
-def closing(program: str) -> Iterator[tuple[str, bytes, list[str], list[str]]]:
-    """The examples whose searches close from the first moment on: the name, the image, the words, and the text."""
-    for path, name, image, _ in examples.searched(program, "every"):
-        words, *told = contents(path).decode().splitlines()
-        if told[-1].endswith(" closed") and " after " not in words:
-            yield name, image, words.split(), told
 
 
 def said(about: str, told: Sequence[str]) -> bytes:

@@ -21,7 +21,7 @@ from common.calling import Failed
 from exercises import exercise, judging
 from judge import building
 from .exporting import need_cargo
-from .running import REPOSITORY, Differs, each, text_of, told_path, write
+from .running import REPOSITORY, Differs, each, ensure, text_of, told_path, write
 
 CHEATS = os.path.join(REPOSITORY, "class", "exercises", "cheats")
 LEAST_CHEATS, LEAST_GOOD = 10, 5     # of each exercise
@@ -73,8 +73,7 @@ def edited(cheat: Cheat) -> tuple[str, str]:
 def replaced(cheat: Cheat, text: str, old: str, new: list[str]) -> str:
     """The text with new lines in the place of an old one. A whole line goes before a part of one."""
     whole = re.findall(rf"^{re.escape(old)}$", text, re.M)
-    if (len(whole) or text.count(old)) != 1:
-        raise Differs(f"{cheat.told}: '{old}' isn't once in the text")
+    ensure((len(whole) or text.count(old)) == 1, f"{cheat.told}: '{old}' isn't once in the text")
     if whole:
         return re.sub(rf"^{re.escape(old)}\n", lambda _: "".join(line + "\n" for line in new), text, flags=re.M)
     return text.replace(old, "\n".join(new))

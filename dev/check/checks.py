@@ -16,9 +16,8 @@ import time
 
 from common import calling
 from . import (any_programs, authors, beside, certificates, cheats, corners, counters, documents, ended, endings,
-               examples, exercises, exporting, gate, grading, guests, house, indexed, links, meanings, pages,
-               playground, playing, public_calls, releasing, shells, sites, sources, streams, tools, versions, wrapper,
-               wrong_bodies)
+               examples, exercises, exporting, gate, grading, guests, house, links, meanings, pages, playground,
+               playing, public_calls, releasing, shells, sites, sources, tools, wrapper, wrong_bodies)
 from .running import Check, Differs, Skipped
 
 # A name, and its parts: functions that are given the program's path and raise Differs if something is wrong, or Skipped
@@ -27,16 +26,16 @@ CHECKS: dict[str, Check | tuple[Check, ...]] = {
     "endings": endings.endings,
     "refused-memory": endings.refused_memory,
     "answering": (endings.typed_script, endings.gathered_answers),
-    "streams": (streams.asked_once, streams.ended_once),
+    "streams": (endings.asked_once, endings.ended_once),
     "documents": (documents.blocks_are_told, documents.blocks_that_run, documents.tutorial_blocks, links.links,
-                  meanings.same, indexed.index),
+                  links.index, meanings.same),
     "gate": gate.gate,
     "step-counters": counters.step_counters,
     "house": (house.house, sources.ghost_imports),
     "public-calls": public_calls.public_calls,
     "edits": wrong_bodies.edits,
     "drawn-edits": wrong_bodies.drawn_edits,
-    "versions": versions.versions,
+    "versions": house.versions,
     "types": tools.types,
     "examples": (examples.examples, examples.programs, examples.retries, examples.monitor, documents.tutorial_sessions),
     "searches": examples.searches,
@@ -48,7 +47,8 @@ CHECKS: dict[str, Check | tuple[Check, ...]] = {
     "pictures": tools.pictures,
     "authors": (authors.preprocessor, authors.reasons, authors.traces, authors.interleavings),
     "debugger": (tools.debugger, tools.language_server),
-    "shell": (shells.through_a_pipe, shells.on_a_terminal),
+    "shell": (shells.session_of_the_page, shells.costs_nothing, shells.keeps_files, shells.each_example,
+              shells.on_a_terminal),
     "exercises": exercises.solutions,
     "exercise-seeds": exercises.by_seeds,
     "cheats": cheats.cheats,
@@ -88,7 +88,7 @@ def made(name: str, check: Check | tuple[Check, ...], program: str) -> tuple[str
             part(program)
         except Skipped as skipped:
             missing[str(skipped)] = None
-        except (Differs, OSError, subprocess.SubprocessError) as found:
+        except (Differs, calling.Failed, OSError, subprocess.SubprocessError) as found:
             return told(name, "fails", f": {found}"), ""
         finally:
             signal.alarm(0)
@@ -133,7 +133,7 @@ def checked() -> int:
         meanings.rewrite()
         return 0
     if given.write_index:
-        indexed.rewrite()
+        links.rewrite()
         return 0
     program = os.path.abspath(calling.direct(given.program))
     names = [name for name in given.only or CHECKS if name not in given.but]

@@ -13,7 +13,7 @@ import re
 from collections.abc import Iterator
 
 from common.blocks import blocks, escaped, parted
-from .running import REPOSITORY, Differs, planted
+from .running import REPOSITORY, Differs, ensure, planted
 from .sources import sources
 
 COMMANDS = "pip_children", "pip_commands", "pip_search_commands", "pip_certificates", "pip_lab_commands"
@@ -45,8 +45,10 @@ def step_counters(program: str) -> None:
     """No crate below the commands names what a counter is made of. Planted ways to make one are tried first."""
     for title, text in PLANTED.items():
         files = parted(text) if text.startswith("crates/") else {KERNEL: f"fn leaf() {{ {text} }}\n"}
-        if bool(found_in(files)) == title.startswith("no "):
-            raise Differs(f"a planted counter is found, or isn't, where it is the other way round: {title}")
+        with planted(files) as place:
+            is_found = any(counters_named(place))
+        ensure(is_found != title.startswith("no "), "a planted counter is found, or isn't, where it is the other way "
+               f"round: {title}")
     if found := list(counters_named(REPOSITORY)):
         raise Differs(f"a step counter can be made: {', '.join(found)}")
 
@@ -93,9 +95,3 @@ def ends_used(top: str, found: set[str]) -> Iterator[str]:
         for other in used:
             if other in found or other.startswith(TESTS) and not crate.startswith(TESTS):
                 yield f"{crate} stands on {other}"
-
-
-def found_in(files: dict[str, str]) -> list[str]:
-    """What is found in a tree of these files alone."""
-    with planted(files) as place:
-        return list(counters_named(place))

@@ -17,8 +17,7 @@ from common.machine import script
 from exporter import crates
 from pages import runnable, site
 from .examples import script_gives
-from .running import (REPOSITORY, Differs, commands_of, expect, part, paths, run, text_of, told_path, write,
-                      write_program)
+from .running import REPOSITORY, Differs, ensure, expect, part, paths, run, text_of, told_path, write, write_program
 
 MARK = b"-- the next command --\n"
 LEAST = 20               # blocks that run: a rule that tells none would pass
@@ -33,16 +32,14 @@ def blocks_are_told(program: str) -> None:
             raise Differs(f"{path}:{unknown[0].line}: nothing tells what this block is; class/pages/runnable.py says "
                           "how one is marked")
         shown = [block for block in document.blocks if block.text.startswith("$ ")] if path in WITH_SESSIONS else []
-        if path in WITH_SESSIONS and not shown:
-            raise Differs(f"{path} has no session")
+        ensure(path not in WITH_SESSIONS or shown, f"{path} has no session")
         if still := [block for block in shown if block.kind is not runnable.Kind.SESSION]:
             raise Differs(f"{path}:{still[0].line}: this session doesn't run: class/pages/runnable.py says what can")
-    if runnable.blocks("a.md", "So:\n\n    what is this\n")[0].kind is not None:
-        raise Differs("a planted block that nothing tells isn't found")
+    ensure(runnable.blocks("a.md", "So:\n\n    what is this\n")[0].kind is None, "a planted block that nothing tells "
+           "isn't found")
     named = part(r"`crate \d+\s+of\s+(\d+)`", text_of("README.md"))
     count = len(crates.chosen(crates.crates_of(Path(REPOSITORY)), ["pip"]))
-    if named != str(count):
-        raise Differs(f"README.md has a build of {named} crates, where {count} make the program")
+    ensure(named == str(count), f"README.md has a build of {named} crates, where {count} make the program")
 
 
 def documents() -> Iterator[tuple[str, runnable.Document]]:
@@ -65,8 +62,7 @@ def blocks_that_run(program: str) -> None:
                     for by, pair in programs.items():
                         session_shows(what + by, runs, pair)
                 count += runs is not None
-    if count < LEAST:
-        raise Differs(f"the documents have only {count} blocks that run")
+    ensure(count >= LEAST, f"the documents have only {count} blocks that run")
 
 
 def runs_of(document: runnable.Document, at: int) -> runnable.Runs | None:
@@ -108,31 +104,21 @@ def joined(lines: Sequence[str]) -> bytes:
 
 @contextlib.contextmanager
 def folder_of(programs: dict[str, str]) -> Iterator[str]:
-    """A folder with what the commands of a session name."""
+    """A folder with what the commands of a session name: examples/, the folders of tools, ./pip and ./lab."""
     with tempfile.TemporaryDirectory() as place:
-        beside(place, programs)
+        for folder in ("examples", "tools", "class", "dev"):
+            os.symlink(os.path.join(REPOSITORY, folder), os.path.join(place, folder))
+        for wrapper, program in programs.items():
+            os.symlink(os.path.abspath(program), os.path.join(place, wrapper))
         yield place
-
-
-def beside(place: str, programs: dict[str, str]) -> None:
-    """Puts beside a session what its commands name: examples/, the folders of tools, ./pip and ./lab."""
-    for folder in ("examples", "tools", "class", "dev"):
-        os.symlink(os.path.join(REPOSITORY, folder), os.path.join(place, folder))
-    for wrapper, program in programs.items():
-        os.symlink(os.path.abspath(program), os.path.join(place, wrapper))
 
 
 def both_programs(program: str, place: str) -> dict[str, dict[str, str]]:
     """By the reference and by the programs: each pair by what a session calls them."""
-    return {", by the reference": {name: by_reference(script, place)
+    told = f'#!/bin/sh\nexec "{sys.executable}" -B "{REPOSITORY}/dev/reference/NAME" "$@"\n'
+    return {", by the reference": {name: write_program(told.replace("NAME", script), place, script)
                                    for name, script in (("pip", "program.py"), ("lab", "lab.py"))},
             "": {"pip": program, "lab": calling.lab(program)}}
-
-
-def by_reference(script: str, place: str) -> str:
-    """The path of a program that is a script of the reference."""
-    path = os.path.join(REPOSITORY, "dev", "reference", script)
-    return write_program(f'#!/bin/sh\nexec "{sys.executable}" -B "{path}" "$@"\n', place, script)
 
 
 # The tutorial
@@ -158,10 +144,9 @@ def commands_give(name: str, programs: dict[str, str], by: str) -> None:
     """Runs the commands of a session in a folder of its own."""
     with folder_of(programs) as place:
         text = text_of(name)
-        if not text.startswith("$ "):
-            raise Differs(f"{name} doesn't begin with a command")
-        for command, shown in commands_of(text):
-            expect(f"{name}, '$ {command}'{by}", run(["sh", "-c", command], cwd=place), (shown, 0))
+        ensure(text.startswith("$ "), f"{name} doesn't begin with a command")
+        for command, shown in runnable.commands(text.split("\n")[:-1]):
+            expect(f"{name}, '$ {command}'{by}", run(["sh", "-c", command], cwd=place), (joined(shown), 0))
 
 
 def tutorial_blocks(program: str) -> None:
@@ -170,28 +155,26 @@ def tutorial_blocks(program: str) -> None:
     document = runnable.Document(Path(REPOSITORY), "docs/TUTORIAL.md")
     shown = [at for at, block in enumerate(document.blocks) if block.source]
     named = TITLE.findall(document.text)
-    if not len(shown) == len(named) == len(re.findall("^```", document.text, re.M)) // 2:
-        raise Differs("docs/TUTORIAL.md: a block doesn't name its file in the line above")
+    ensure(len(shown) == len(named) == len(re.findall("^```", document.text, re.M)) // 2, "docs/TUTORIAL.md: a block "
+           "doesn't name its file in the line above")
     if wrong := [title for title, name in named if title != os.path.basename(name)]:
         raise Differs(f"docs/TUTORIAL.md: the link '{wrong[0]}' leads to another file")
     for at in shown:
         is_whole(document.blocks[at], runs_of(document, at))
     linked = {f"{FOLDER}{name}" for name in re.findall(rf"\]\(\.\./{FOLDER}([^)]+)\)", document.text)}
     left_out = sorted({*files(".pip"), *files(".s"), *files(".session")} - linked)
-    if left_out:
-        raise Differs(f"docs/TUTORIAL.md doesn't show or link {', '.join(left_out)}")
+    ensure(not left_out, f"docs/TUTORIAL.md doesn't show or link {', '.join(left_out)}")
 
 
 def is_whole(block: runnable.Block, runs: runnable.Runs | None) -> None:
     """Whether a block that isn't a part shows its file, and each line of a script its answer."""
     source = str(block.source)
     lines = runs.lines if isinstance(runs, runnable.Script) else [(line, "") for line in block.text.splitlines()]
-    if not block.is_part and [line for line, _ in lines] != text_of(source).splitlines():
-        raise Differs(f"docs/TUTORIAL.md, the block of {source}, isn't the file")
+    ensure(block.is_part or [line for line, _ in lines] == text_of(source).splitlines(), "docs/TUTORIAL.md, the block "
+           f"of {source}, isn't the file")
     events = [answer for line, answer in lines if line and not line.startswith("#")]
     good = itertools.takewhile(lambda answer: not str(answer).startswith("bad line"), events)
-    if None in good:
-        raise Differs(f"docs/TUTORIAL.md, the block of {source}, lacks an answer")
+    ensure(None not in good, f"docs/TUTORIAL.md, the block of {source}, lacks an answer")
 
 
 def files(ending: str) -> list[str]:

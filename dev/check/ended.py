@@ -9,8 +9,8 @@ import tempfile
 import time
 
 from common import calling
-from .running import (SECONDS, Differs, called, copied, expect, finished, folders_of, heed_interrupts,
-                      stand_ins, tool, write_program)
+from .running import (SECONDS, called, copied, ensure, expect, finished, folders_of, heed_interrupts, stand_ins, tool,
+                      write_program)
 
 MAP = "examples/solutions/map.pip"
 TREE = b"part 1 depth 0 up 1 born 0x00000000 tables 0 rows 0\n"      # for those that read
@@ -25,8 +25,8 @@ def full_devices(program: str) -> None:
     for name, *words in TOOLS:
         with open("/dev/full", "wb") as full:
             _, messages, status = tool(program, name, *words, text=TREE, stdout=full)
-        if status != 2 or "No space left on device" not in "".join(messages.splitlines()[-1:]):
-            raise Differs(f"{name} {' '.join(words)} on a full device: status {status}, {messages[-300:]}")
+        ensure(status == 2 and "No space left on device" in "".join(messages.splitlines()[-1:]), f"{name} "
+               f"{' '.join(words)} on a full device: status {status}, {messages[-300:]}")
 
 
 def interrupted(program: str) -> None:
@@ -34,8 +34,8 @@ def interrupted(program: str) -> None:
     with tempfile.TemporaryDirectory() as place:
         waits = stand_ins(place, f"#!/bin/sh\nexec sleep {SECONDS}\n", program)
         stop("asmx", ("--check", "-"), program)
-        if "choices or fewer" not in stop("every", ("examples/two_guests.s", "100000000"), program):
-            raise Differs("every at Ctrl-C doesn't say what it covers")
+        ensure("choices or fewer" in stop("every", ("examples/two_guests.s", "100000000"), program),
+               "every at Ctrl-C doesn't say what it covers")
         stop("check/run.py", ("--only", "commands", "--program", waits), program)
 
 
@@ -51,8 +51,8 @@ def stop(name: str, words: tuple[str, ...], program: str) -> str:
     except subprocess.TimeoutExpired:
         os.killpg(begun.pid, signal.SIGINT)
     output, messages = (told.decode() for told in begun.communicate(timeout=SECONDS))
-    if begun.returncode != 130 or "stopped" not in messages or len(messages.splitlines()) != 1:
-        raise Differs(f"{name} at Ctrl-C: status {begun.returncode}, {messages[-300:]}")
+    ensure(begun.returncode == 130 and "stopped" in messages and len(messages.splitlines()) == 1, f"{name} at Ctrl-C: "
+           f"status {begun.returncode}, {messages[-300:]}")
     return output
 
 
@@ -82,9 +82,8 @@ def nothing_is_proved(program: str) -> None:
             for option, due in (((), "no program is here, as new as the sources: "),
                                 (("--unproved",), "no program that cargo built is here")):
                 _, messages, status = tool(None, name, *words, *option, text=IMAGE, place=place, env=environment)
-                if status != 2 or messages.count("\n") != 1 or due not in messages:
-                    raise Differs(f"{name} {' '.join(words)}, where nothing is built: status {status}, "
-                                  f"{messages}")
+                ensure(status == 2 and messages.count("\n") == 1 and due in messages, f"{name} {' '.join(words)}, "
+                       f"where nothing is built: status {status}, {messages}")
         finished("the sessions of the documents with a program, where nothing is built",
                  [sys.executable, "-B", "-c", SESSIONS.format(program=os.path.abspath(program))], cwd=place,
                  env={**environment, "LAB": os.path.abspath(calling.lab(program)),

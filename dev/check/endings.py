@@ -1,18 +1,19 @@
-"""How the program ends: its exit statuses, and what it writes then; when the answers of a script are written; and what
-happens where memory is refused."""
+"""How the program ends: its exit statuses, and what it writes then; when the answers of a script are written; what
+happens where memory is refused; and what commands ask of their standard streams."""
 
 import os
+import pty
 import subprocess
 import tempfile
 import threading
 from collections.abc import Iterator
+from typing import Any
 
 from authors import asmx
 from common import calling, forms
 from common.machine import image as images
-from reference import commands as reference
-from reference import parts
-from .running import REPOSITORY, SECONDS, Differs, Output, contents, expect, finished, run, same, write
+from reference import commands as reference, parts
+from .running import REPOSITORY, SECONDS, Differs, Output, contents, ensure, expect, finished, run, same, write
 
 HERE = os.path.dirname(os.path.abspath(__file__))
 MOST = 1 << 24           # bytes of an input
@@ -91,8 +92,7 @@ def gathered_answers(program: str) -> None:
         due = b"boot 32 1\n" + b"0x00000000\n" * LINES
         expect(f"a script of {LINES} lines", (contents(text), status), (due, 0))
         count = int(contents(counted).split()[2])
-        if not 0 < count <= MOST_WRITES:
-            raise Differs(f"a script of {LINES} lines: {count} writes, where {MOST_WRITES} are the most")
+        ensure(0 < count <= MOST_WRITES, f"a script of {LINES} lines: {count} writes, where {MOST_WRITES} are the most")
 
 
 # Each allocation of a command is refused in turn: it ends for want of memory, and nothing was written
@@ -148,11 +148,70 @@ def refused_memory(program: str) -> None:
             whole, count = refused(path, words, text, 0)
             expect(f"{words[0]}, with a counted memory", whole, reference.told(words, text))
             _, for_words = refused(path, ["none", *words[1:]], b"", 0)
-            if count <= for_words:
-                raise Differs(f"{words[0]} takes no memory")
+            ensure(count > for_words, f"{words[0]} takes no memory")
             for number in range(1, count + 1):
                 (output, status), _ = refused(path, words, text, number)
                 allowed = [NO_MEMORY, NO_WORDS] if number <= for_words else [NO_MEMORY]
-                if output or status not in allowed:
-                    raise Differs(f"{words[0]}, with allocation {number} of {count} refused: status {status}, "
-                                  f"{output[:80]!r}")
+                ensure(not output and status in allowed, f"{words[0]}, with allocation {number} of {count} refused: "
+                       f"status {status}, {output[:80]!r}")
+
+
+# What the commands ask of their standard streams: nothing after the end of the input, nor after a read or a write that
+# failed
+
+READ_FAILED, WRITE_FAILED = 3, 4     # statuses
+TYPED_AT_END = ("script", "asm", "merge")   # commands whose input is lines of text
+
+
+def asked_once(program: str) -> None:
+    """Each read and each write of each command fails in turn, and a full device takes nothing: nothing more is read or
+    written then, and nothing is read after the end."""
+    with tempfile.TemporaryDirectory() as place:
+        library, counted = preloaded("streams", place), os.path.join(place, "count")
+
+        def asked(what: str, words: list[str], text: bytes, refused: dict[str, int],
+                  **streams: Any) -> tuple[Output, int, int]:
+            """What a command comes to, and how often it reads and writes."""
+            settings = dict(os.environ, LD_PRELOAD=library, COUNT=counted,
+                            **{name: str(number) for name, number in refused.items()})
+            told = run(calling.called(program, words), text, env=settings, **streams)
+            reads, late_reads, writes, late_writes = map(int, contents(counted).split())
+            for late, kind in (late_reads, "reads"), (late_writes, "writes"):
+                ensure(not late, f"{words[0]}, {what}: {late} {kind} more after the last that there should be")
+            return told, reads, writes
+
+        for words, text in cases():
+            whole, reads, writes = asked("whose calls are counted", words, text, {})
+            expect(f"{words[0]}, whose calls are counted", whole, reference.told(words, text))
+            for name, count, due in ("READ_FAILS", reads, READ_FAILED), ("WRITE_FAILS", writes, WRITE_FAILED):
+                for number in range(1, count + 1):
+                    what = f"with {name}={number} of {count}"
+                    same(f"the status of {words[0]}, {what}", asked(what, words, text, {name: number})[0][1], due)
+            with open("/dev/full", "wb") as device:
+                what = "on a full device"
+                full, _, _ = asked(what, words, text, {}, stdout=device)
+                same(f"the status of {words[0]}, {what}", full[1], WRITE_FAILED)
+
+
+def ended_once(program: str) -> None:
+    """At a terminal the end of an input is typed once."""
+    for words, text in cases():
+        if words[0] in TYPED_AT_END:
+            expect(f"{words[0]} at a terminal", typed(program, words, text), reference.told(words, text))
+
+
+def typed(program: str, words: list[str], text: bytes) -> Output:
+    """What a command comes to whose input is typed at a terminal, and then its end."""
+    outer, inner = pty.openpty()
+    begun = subprocess.Popen(calling.called(program, words), stdin=inner, stdout=subprocess.PIPE)
+    os.close(inner)
+    try:
+        os.write(outer, text + b"\x04")
+        output, _ = begun.communicate(timeout=SECONDS)
+    except subprocess.TimeoutExpired:
+        raise Differs(f"{words[0]} at a terminal reads on after the end of its input was typed") from None
+    finally:
+        begun.kill()
+        begun.wait()
+        os.close(outer)
+    return output, begun.returncode

@@ -6,10 +6,10 @@ from collections.abc import Iterator
 
 from authors import asmx, every_program as guests
 from common import calling
-from common.machine import every, script
+from common.machine import runs, script
 from debugger import searching, sources
 from reference import commands as reference
-from .running import REPOSITORY, Differs, contents, expect, paths, run, text_of, told_path
+from .running import REPOSITORY, Differs, contents, ensure, expect, paths, run, text_of, told_path
 
 SESSIONS = os.path.join("examples", "sessions")
 PROVED = os.path.join("crates", "pip_test_tables", "proofs", "Scripts.antt")
@@ -32,9 +32,8 @@ def sessions_are_lemmas() -> None:
     for path in paths(f"{SESSIONS}/*.pip"):
         name, lines = os.path.basename(path)[:-len(".pip")], contents(path).decode().splitlines(keepends=True)
         text = "".join(line for line in lines if not line.startswith("#"))
-        if lemmas.get(name) != (text, contents(path[:-len("pip")] + "out").decode()):
-            raise Differs(f"{told_path(path)}: {PROVED} has no lemma {name} of this script and these "
-                          "answers")
+        ensure(lemmas.get(name) == (text, contents(path[:-len("pip")] + "out").decode()), f"{told_path(path)}: "
+               f"{PROVED} has no lemma {name} of this script and these answers")
 
 
 def written(codes: str) -> str:
@@ -46,8 +45,7 @@ def script_gives(program: str, path: str) -> None:
     """A script gives the answers beside it, NAME.out, by the program and by the reference."""
     name = told_path(path)
     text, shown = contents(path), contents(path[:-len("pip")] + "out")
-    if not text.startswith(b"# "):
-        raise Differs(f"{name}: its first line isn't a remark that says what it shows")
+    ensure(text.startswith(b"# "), f"{name}: its first line isn't a remark that says what it shows")
     status = 2 if shown.rsplit(b"\n", 2)[-2].startswith(b"bad line") else 0
     expect(f"{name}, by the reference", script.run(text), (shown, status))
     expect(name, run([program, "script"], text), (shown, status))
@@ -58,8 +56,7 @@ def programs(program: str) -> None:
     names = list(map(told_path, paths("examples/*.s")))
     for name in names:
         text = contents(name)
-        if not text.startswith(b"# "):
-            raise Differs(f"{name}: its first line isn't a remark that says what it shows")
+        ensure(text.startswith(b"# "), f"{name}: its first line isn't a remark that says what it shows")
         expect(f"the image of {name}", run([program, "asm"], text), reference.pip(["asm"], text))
     if lacking := set(names) - set(answers(program, "run")):
         raise Differs(f"{sorted(lacking)} have no trace beside them")
@@ -108,7 +105,7 @@ def every_program(program: str) -> None:
     for path, name, data, _ in searched(program, "any"):
         told, due = contents(path).decode().split("\n", 1)
         states, *after = told.split()[1:]
-        begin = every.After(*map(int, after[1:])) if after else every.AT_FIRST
+        begin = runs.After(*map(int, after[1:])) if after else runs.AT_FIRST
         asked = searching.Asked(data, b"", int(states), after=begin)
         found = guests.answer(program, asked, sources.read(data, os.path.join(REPOSITORY, name)))
         expect(f"{name}, '{told}'", (guests.text_of(guests.told(found)), 0), (due.encode(), 0))
@@ -132,33 +129,30 @@ def retries(program: str) -> None:
         what = f"examples/retry.s with the period {period} and the seed {seed}"
         for half in (1, 2):
             shown = [int(word, 16) for word in re.findall(rf" out 0x000{half}([0-9a-f]{{4}})$", trace, re.M)]
-            if shown != list(range(1, len(shown) + 1)) or len(shown) < 5:
-                raise Differs(f"{what}: child {half} was served the requests {shown}")
+            ensure(shown == list(range(1, len(shown) + 1)) and len(shown) >= 5, f"{what}: child {half} was served the "
+                   f"requests {shown}")
         others = re.findall(r" call 8 reply (?!14 ).*| call (?!8 )\d+ reply (?!0 ).*| park \d+ (?!70$).*", trace, re.M)
-        if others:
-            raise Differs(f"{what}: {others[:2]}")
+        ensure(not others, f"{what}: {others[:2]}")
         refused += trace.count(" call 8 reply 14 ")
         parked += len(re.findall(r" park \d+ 70$", trace, re.M))
-    if not refused or not parked:
-        raise Differs(f"examples/retry.s: {refused} turns were tried again, and {parked} requests: where neither "
-                      "comes, nothing is shown")
+    ensure(refused and parked, f"examples/retry.s: {refused} turns were tried again, and {parked} requests: where "
+           "neither comes, nothing is shown")
 
 
 def monitor(program: str) -> None:
     """The sample monitor is refused nothing, never parks, and gives both its children their turns."""
     text = contents("examples", "monitor.s")
-    if b'"' + text + b'";' not in contents("crates/pip_commands/src/monitor.rt"):
-        raise Differs("examples/monitor.s isn't the constant of crates/pip_commands/src/monitor.rt")
+    ensure(b'"' + text + b'";' in contents("crates/pip_commands/src/monitor.rt"), "examples/monitor.s isn't the "
+           "constant of crates/pip_commands/src/monitor.rt")
     image, _ = run([program, "asm"], text)
     words = ["run", "100000", "1"]
     trace, status = run([program, *words], image)
     expect("the trace of the monitor", (trace, status), reference.pip(words, image))
     lines = trace.decode().splitlines()
-    if status or lines[-1] != "end 100000":
-        raise Differs(f"the monitor ends with {lines[-1]!r}, status {status}")
+    ensure(not status and lines[-1] == "end 100000", f"the monitor ends with {lines[-1]!r}, status {status}")
     for line in lines:
         if " park " in line or (" reply " in line and " reply 0 " not in line):
             raise Differs(f"the monitor has the line {line!r}")
     shown = [int(word, 16) for word in re.findall(r" out (0x[0-9a-f]{8})", trace.decode())]
-    if not (any(word < 0x20000000 for word in shown) and any(word >= 0x20000000 for word in shown)):
-        raise Differs("a child of the monitor shows nothing")
+    ensure(any(word < 0x20000000 for word in shown) and any(word >= 0x20000000 for word in shown), "a child of the "
+           "monitor shows nothing")

@@ -11,7 +11,7 @@ import tempfile
 from common.blocks import blocks
 from exercises import exercise, judging
 from . import cheats
-from .running import REPOSITORY, SECONDS, Differs, contents, each, folders_of, run, says, session, text_of, tool
+from .running import REPOSITORY, SECONDS, contents, each, ensure, folders_of, run, says, session, text_of, tool
 
 TIMES = 3                # that each solution is judged, each time with another secret
 SEEDS = ("ada", "grace hopper", "\u00e9")
@@ -22,8 +22,8 @@ def solutions(program: str) -> None:
     cheats.need_judge()
     names = list(judging.exercises())
     files = judging.solutions()
-    if tool(None, "exercise", "--list")[0].split() != names or sorted(files) != sorted(names) or len(names) < 20:
-        raise Differs(f"docs/EXERCISES.md, examples/solutions ({sorted(files)}) and the judge ({names}) differ")
+    ensure(tool(None, "exercise", "--list")[0].split() == names and sorted(files) == sorted(names) and len(names) >= 20,
+           f"docs/EXERCISES.md, examples/solutions ({sorted(files)}) and the judge ({names}) differ")
     each(lambda name: solution(name, files[name]), names * TIMES)
     whole_script(program, files["break-in"])
     drawn_again()
@@ -32,8 +32,7 @@ def solutions(program: str) -> None:
 
 
 def solution(name: str, path: str) -> None:
-    if not contents(path).startswith(b"# "):
-        raise Differs(f"{path}: its first line isn't a remark")
+    ensure(contents(path).startswith(b"# "), f"{path}: its first line isn't a remark")
     says(None, ("exercise", name, path), kind=">")
 
 
@@ -43,16 +42,16 @@ def drawn_again() -> None:
     cheat = next(cheat for cheat in cheats.all_cheats() if (cheat.name, cheat.title) == ("tell-apart", "by_heart.asmx"))
     found = [cheats.judged(cheat.name, *cheats.edited(cheat), True, secret=secret) for secret in ("1", "1", None, None)]
     told = [one.lines(True) for one in found]
-    if told[0] != told[1] or told[2] == told[3] or found[2].secret == found[3].secret:
-        raise Differs(f"class/exercise --again: {told}")
+    ensure(told[0] == told[1] and told[2] != told[3] and found[2].secret != found[3].secret, "class/exercise --again: "
+           f"{told}")
 
 
 def by_seeds(program: str) -> None:
     """With a seed the text has other values; a solution for these is good, and that of the repository isn't."""
     cheats.need_judge()
     for one, other in (("ada lovelace", " Ada_Lovelace "), ("\u00e9", "E\u0301")):
-        if judging.values("map", one) != judging.values("map", other):
-            raise Differs(f"class/exercise --seed: {one!r} and {other!r} are two names")
+        ensure(judging.values("map", one) == judging.values("map", other), f"class/exercise --seed: {one!r} and "
+               f"{other!r} are two names")
     work = [(seed, name, one.is_program) for seed, (name, one) in itertools.product(SEEDS, judging.exercises().items())]
     each(lambda one: by_seed(*one), work)
 
@@ -60,14 +59,13 @@ def by_seeds(program: str) -> None:
 def by_seed(seed: str, name: str, is_program: bool) -> None:
     values = told_by_seed(name, seed)
     path = judging.solutions()[name]
-    if judging.judged(name, path, contents(path), is_program, seed).is_whole:
-        raise Differs(f"class/exercise {name} --seed {seed}: the solution of the repository is good")
+    ensure(not judging.judged(name, path, contents(path), is_program, seed).is_whole, f"class/exercise {name} --seed "
+           f"{seed}: the solution of the repository is good")
     if name in INCLUDED:
         path = os.path.join(REPOSITORY, "examples", INCLUDED[name])
     text = rewritten(name, text_of(path), values)
     found = cheats.judged(name, text, os.path.splitext(path)[1], is_program, seed)
-    if not found.is_whole:
-        raise Differs(f"class/exercise {name} --seed {seed} of a solution for it: {found.lines(True)}")
+    ensure(found.is_whole, f"class/exercise {name} --seed {seed} of a solution for it: {found.lines(True)}")
 
 
 def told_by_seed(name: str, seed: str) -> dict[str, int]:
@@ -75,16 +73,15 @@ def told_by_seed(name: str, seed: str) -> dict[str, int]:
     page, usual = (" ".join(exercise.told(name, by).split()) for by in (seed, None))
     values = judging.values(name, seed)
     for value, (_, told) in judging.values(name, None).items():
-        if told not in usual or values[value][1] not in page:
-            raise Differs(f"docs/EXERCISES.md, {name}: the value {value} isn't told")
+        ensure(told in usual and values[value][1] in page, f"docs/EXERCISES.md, {name}: the value {value} isn't told")
     return {value: number for value, (number, _) in values.items()}
 
 
 def whole_script(program: str, path: str) -> None:
     """The script that break-in runs is a good one by itself."""
     told = says(None, ("exercise", "break-in", path, "--script"), 0, "call 0 8 0x401000 64 256\n", kind=">")
-    if run([program, "script"], told.encode())[1]:
-        raise Differs(f"class/exercise break-in --script: the program refuses {told[-300:]!r}")
+    ensure(not run([program, "script"], told.encode())[1], "class/exercise break-in --script: the program refuses "
+           f"{told[-300:]!r}")
 
 
 def without_cargo(path: str) -> None:
@@ -97,8 +94,8 @@ def without_cargo(path: str) -> None:
         done = subprocess.run(words, cwd=REPOSITORY, timeout=SECONDS, env=environment, stdout=subprocess.PIPE,
                               stderr=subprocess.PIPE)
     told = done.stderr.decode()
-    if done.returncode != 2 or "there is no cargo here" not in told or len(told.splitlines()) != 1:
-        raise Differs(f"class/exercise without cargo: status {done.returncode}, {told}")
+    ensure(done.returncode == 2 and "there is no cargo here" in told and len(told.splitlines()) == 1,
+           f"class/exercise without cargo: status {done.returncode}, {told}")
 
 
 # The solutions, rewritten for the values of a seed

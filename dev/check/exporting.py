@@ -15,8 +15,8 @@ from pathlib import Path
 
 from common import calling
 from exporter import export
-from .running import (REPOSITORY, Differs, Skipped, agree, called, contents, copied, expect, finished, generated,
-                      needed, part, paths, run, text_of, write)
+from .running import (REPOSITORY, Differs, Skipped, agree, called, contents, copied, ensure, expect, finished,
+                      generated, needed, part, paths, run, text_of, write)
 
 SECONDS = 900            # cargo builds everything
 CASES = 200              # of each command
@@ -42,9 +42,8 @@ def listed() -> None:
     parts = (part for _, part in export.untested(Path(REPOSITORY), []))
     found = {re.search(r"\b[A-Z][A-Za-z0-9]*[a-z][A-Za-z0-9]*", part) for part in parts}
     due = {name.group() for name in found if name}
-    if due != named:
-        raise Differs(f"docs/EXPORT.md, Requirements: {sorted(due - named)} isn't named, {sorted(named - due)} isn't "
-                      "untested")
+    ensure(due == named, f"docs/EXPORT.md, Requirements: {sorted(due - named)} isn't named, {sorted(named - due)} "
+           "isn't untested")
 
 
 def by_cargo(program: str) -> None:
@@ -76,8 +75,7 @@ def definitions_are_found(docs: str) -> None:
             target = os.path.normpath(os.path.join(os.path.dirname(target), moved[1]))
         if anchor not in anchors.get(target, ()):
             raise Differs(f"rustdoc: {os.path.relpath(path, docs)} leads to {place}#{anchor}, which isn't there")
-    if not links:
-        raise Differs("rustdoc: no clause leads to a definition")
+    ensure(links, "rustdoc: no clause leads to a definition")
 
 
 def of_registry(program: str) -> None:
@@ -102,8 +100,8 @@ def unproved(program: str) -> None:
                               stdout=subprocess.PIPE, stderr=subprocess.PIPE, timeout=SECONDS)
         expect("./pip --unproved", (done.stdout, done.returncode), (contents("examples/first.out"), 0))
         told = done.stderr.decode()
-        if not told.endswith("cargo built this program of the same text, and nothing is proved of it\n"):
-            raise Differs(f"./pip --unproved says {told[-2000:]!r}")
+        ensure(told.endswith("cargo built this program of the same text, and nothing is proved of it\n"),
+               f"./pip --unproved says {told[-2000:]!r}")
 
 
 def clippy(program: str) -> None:
@@ -116,8 +114,7 @@ def miri(program: str) -> None:
     """The tests of frames, whose crate alone has unsafe code, in an interpreter that sees undefined behaviour."""
     need_cargo("miri")
     told = cargo(exported().name, "miri", "test", "-p", "pip_test_tables", "frames")
-    if not passed(told):
-        raise Differs(f"no test of frames was run:\n{told[-2000:]}")
+    ensure(passed(told), f"no test of frames was run:\n{told[-2000:]}")
 
 
 def need_cargo(tool: str = "") -> None:

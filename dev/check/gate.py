@@ -10,7 +10,7 @@ import tempfile
 from collections.abc import Sequence
 from typing import Any
 
-from .running import Differs, contents, copied, needed, part, same, text_of, write, write_program
+from .running import contents, copied, ensure, needed, part, same, text_of, write, write_program
 
 KIT = r"- The Rattle kit, `([^`]*)`"
 TOOLS = r'needed="([^"]*)"'
@@ -29,8 +29,8 @@ def gate(program: str) -> None:
     tools = part(TOOLS, text_of(".ci/run")).split()
     for missing in tools:
         status, told = ended(kit, [tool for tool in tools if tool != missing])
-        if status != 3 or f"needs {missing}:" not in told:
-            raise Differs(f"without {missing} the gate ends with {status} and says {told!r}")
+        ensure(status == 3 and f"needs {missing}:" in told, f"without {missing} the gate ends with {status} and says "
+               f"{told!r}")
     cases: tuple[tuple[str, int, str, dict[str, Any]], ...] = (
         ("another kit", 3, "'another kit'", {"kit": "another kit"}),
         ("no kit's line", 3, "''", {"kit": ""}),
@@ -44,8 +44,8 @@ def gate(program: str) -> None:
     for what, due, said, given in cases:
         settings: dict[str, Any] = {"kit": kit, "tools": tools, **given}
         status, told = ended(**settings)
-        if status != due or said not in told:
-            raise Differs(f"{what}: the gate ends with {status}, where {due} is due, and says {told!r}")
+        ensure(status == due and said in told, f"{what}: the gate ends with {status}, where {due} is due, and says "
+               f"{told!r}")
 
 
 def ended(kit: str, tools: Sequence[str], proves: int = 0, checks: int = 0, installs: int | None = None,

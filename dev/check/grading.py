@@ -13,8 +13,8 @@ from common.blocks import blocks
 from exercises import alone, grade, judging, likeness
 from judge import building
 from . import cheats
-from .running import (REPOSITORY, Differs, contents, heed_interrupts, says, session, text_of, tool, write,
-                      write_program)
+from .running import (REPOSITORY, Differs, contents, ensure, heed_interrupts, says, session, text_of, tool,
+                      wait_until, write, write_program)
 
 HOSTILE = os.path.join(REPOSITORY, "class", "exercises", "hostile")
 CLASS = blocks("data/class.txt", __file__)
@@ -38,13 +38,12 @@ def grades(program: str) -> None:
                "break-in.pip: line 1: the child can't say", "loose.pip is in no student's folder", "jo is a link")
         lacks = [part for part in due if part not in messages]
         wanted = CLASS["table"] + "(--again 1 draws the same)\n"
-        if (output, status) != (wanted, 0) or lacks or len(messages.splitlines()) != len(due):
-            raise Differs(f"class/grade: status {status}, {output}{messages}")
+        ensure((output, status) == (wanted, 0) and not lacks and len(messages.splitlines()) == len(due),
+               f"class/grade: status {status}, {output}{messages}")
         if (got := tool(None, "grade", place, "--csv")[0]) != CLASS["spreadsheet"]:
             raise Differs(f"class/grade --csv: {got}")
         seeds = tool(None, "grade", place, "--seeds")[0]
-        if "0/3       0/3  0/3" not in seeds:
-            raise Differs(f"class/grade --seeds: {seeds}")
+        ensure("0/3       0/3  0/3" in seeds, f"class/grade --seeds: {seeds}")
         session("grade", program, CLASS=place)
     moved_works()
     hostile_works()
@@ -61,8 +60,8 @@ def moved_works() -> None:
         other = judging.plain_solution("monitor" if is_program else "forged", is_program)
         texts = {"ada": text, "bob": changed, "eve": other}
         told = likeness.alike({who: likeness.essence(one, is_program) for who, one in texts.items()})
-        if told != [("the same text with other registers or pages", ["ada", "bob"])]:
-            raise Differs(f"class/grade: of {name}, once with other pages or registers, is told {told}")
+        ensure(told == [("the same text with other registers or pages", ["ada", "bob"])], f"class/grade: of {name}, "
+               f"once with other pages or registers, is told {told}")
 
 
 def hostile_works() -> None:
@@ -81,16 +80,15 @@ def hostile_works() -> None:
         rows = {line.split()[0]: line for line in output.splitlines() if line and not line.startswith("(")}
         # The work of ada is the example itself; that of 'own' includes a file of its own folder and is a good one.
         for student in set(os.listdir(classroom)) - {"ada", "own"}:
-            if not rows[grade.visible(student)].rstrip().endswith(tuple(f" 0/{k}" for k in range(3, 9))):
-                raise Differs(f"class/grade: a hostile work of {student} is whole: {output}")
+            ensure(rows[grade.visible(student)].rstrip().endswith(tuple(f" 0/{k}" for k in range(3, 9))),
+                   f"class/grade: a hostile work of {student} is whole: {output}")
         said = messages.splitlines()
         lacks = [path for path, told in due.items() if not any(path in line and told in line for line in said)]
         leaks = "\x1b" in output + messages or "root:" in output + messages or "helper" in messages
-        if status or lacks or leaks or took > 4 * alone.SECONDS:
-            raise Differs(f"class/grade of hostile works: status {status}, {took:.0f} s, nothing is said of {lacks}: "
-                          f"{output}{messages}")
-        if " 6/6=" not in rows["own"] or "monitor: the same text: ada, own, the solution" not in output:
-            raise Differs(f"class/grade: a work with a file of its own isn't taken, or isn't like ada's: {output}")
+        ensure(not status and not lacks and not leaks and took <= 4 * alone.SECONDS, "class/grade of hostile works: "
+               f"status {status}, {took:.0f} s, nothing is said of {lacks}: {output}{messages}")
+        ensure(" 6/6=" in rows["own"] and "monitor: the same text: ada, own, the solution" in output,
+               f"class/grade: a work with a file of its own isn't taken, or isn't like ada's: {output}")
         says(None, ("grade", classroom, "--allow", "monitor.s"), 0, "ada, own")
 
 
@@ -128,15 +126,15 @@ def stopped() -> None:
         words = [sys.executable, "-B", os.path.join(REPOSITORY, "class", "grade"), os.path.join(place, "class")]
         process = subprocess.Popen(words, env={**os.environ, "PIP_JUDGE": waits}, stdout=subprocess.PIPE,
                                    stderr=subprocess.PIPE, preexec_fn=heed_interrupts)
-        until_begun(os.path.join(place, "begun"))
+        wait_until(lambda: os.path.exists(os.path.join(place, "begun")), "class/grade doesn't judge")
         begun = time.monotonic()
         process.send_signal(signal.SIGINT)
         _, messages = process.communicate(timeout=60)
         left = [number for number in text_of(place, "begun").split() if goes_on(number)]
         took = time.monotonic() - begun
-        if process.returncode != 130 or took > PROMPT or left or b"Traceback" in messages:
-            raise Differs(f"class/grade, stopped: status {process.returncode} after {took:.1f} seconds, {left} go on; "
-                          f"{messages.decode()}")
+        ensure(process.returncode == 130 and took <= PROMPT and not left and b"Traceback" not in messages,
+               f"class/grade, stopped: status {process.returncode} after {took:.1f} seconds, {left} go on; "
+               f"{messages.decode()}")
 
 
 def goes_on(number: str) -> bool:
@@ -145,11 +143,3 @@ def goes_on(number: str) -> bool:
         return text_of(f"/proc/{number}/stat").rpartition(") ")[2][0] != "Z"
     except OSError:
         return False
-
-
-def until_begun(path: str) -> None:
-    for _ in range(300):
-        if os.path.exists(path):
-            return
-        time.sleep(0.1)
-    raise Differs("class/grade doesn't judge")

@@ -6,7 +6,7 @@ import os
 import random
 import re
 
-from .running import Differs, run, text_of
+from .running import Differs, ensure, run, text_of
 
 MONITOR = os.path.join("examples", "two_guests.s")
 SEEDS, PROGRAMS = range(1, 9), 60        # of the schedule, and hostile first guests with each
@@ -30,8 +30,8 @@ def hostile_guests(program: str) -> None:
     """First guests that do anything at random. A monitor that keeps its handler of the line is tried first."""
     text = text_of(MONITOR)
     careless = text.replace(*CARELESS)
-    if careless == text or not any(troubles(program, careless, seed) for seed in SEEDS):
-        raise Differs(f"{MONITOR}: nothing shows that a guest can use a handler of the line")
+    ensure(careless != text and any(troubles(program, careless, seed) for seed in SEEDS), f"{MONITOR}: nothing shows "
+           "that a guest can use a handler of the line")
     found = [trouble for seed in SEEDS for trouble in troubles(program, text, seed)]
     if found:
         raise Differs(f"{len(found)} first guests have an effect on the second: {found[0]}")
@@ -39,12 +39,12 @@ def hostile_guests(program: str) -> None:
 
 def troubles(program: str, text: str, seed: int) -> list[str]:
     """What goes wrong beside the hostile guests of one seed."""
-    alone = second(trace(program, text, "", seed))
-    if alone is None or len(alone) < LEAST:
-        raise Differs(f"{MONITOR}, seed {seed}: the second guest has {len(alone or [])} lines beside an honest one")
+    alone = second(trace(program, text, [], seed)) or []
+    ensure(len(alone) >= LEAST, f"{MONITOR}, seed {seed}: the second guest has {len(alone)} lines beside an honest one")
     drawn, found = random.Random(seed), list[str]()
     for number in range(PROGRAMS):
-        beside = second(trace(program, text, guest(drawn), seed))
+        lines = [line for _ in range(drawn.randint(3, 10)) for line in attempt(drawn)]
+        beside = second(trace(program, text, lines, seed))
         if beside is None:
             found.append(f"seed {seed}, guest {number}: the second never begins")
         elif any(one != other for one, other in zip(alone, beside)) or len(beside) < LEAST // 2:
@@ -62,19 +62,13 @@ def second(lines: list[str]) -> list[str] | None:
     return None
 
 
-def trace(program: str, text: str, hostile: str, seed: int) -> list[str]:
+def trace(program: str, text: str, hostile: list[str], seed: int) -> list[str]:
     """The lines of a run whose first guest begins with a hostile program, or with its own where that is none."""
-    padded = hostile.splitlines() + ["addi r15 r15 0"] * (ROOM - hostile.count("\n"))
+    padded = hostile + ["addi r15 r15 0"] * (ROOM - len(hostile))
     planted = text.replace("\ntop:\n", "\n".join(["", "top:", *HONEST, *padded, "honest:", ""]), 1)
     image, status = run([program, "asm"], planted.encode())
-    if status or planted == text:
-        raise Differs(f"{MONITOR} with a hostile guest is no image: {image[:80]!r}")
+    ensure(not status and planted != text, f"{MONITOR} with a hostile guest is no image: {image[:80]!r}")
     return run([program, "run", STEPS, str(seed)], image)[0].decode().splitlines()
-
-
-def guest(drawn: random.Random) -> str:
-    """A hostile program, of at most 150 words."""
-    return "".join(line + "\n" for _ in range(drawn.randint(3, 10)) for line in attempt(drawn))
 
 
 def attempt(drawn: random.Random) -> list[str]:

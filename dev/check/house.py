@@ -1,14 +1,18 @@
-"""The order of the house: no line is too wide, each public definition of specs has a remark above it, and one name is
-one definition's, type's or constant's."""
+"""The order of the house: no line is too wide, each public definition of specs has a remark above it, one name is one
+definition's, type's or constant's, and one number names the state of all that is here."""
+
+from __future__ import annotations
 
 import collections
 import glob
 import os
 import re
 from collections.abc import Iterator
+from pathlib import Path
 
+from exporter import workspace
 from .links import documents, without_code
-from .running import REPOSITORY, Differs, folders_of, planted_for, text_of
+from .running import REPOSITORY, Differs, ensure, folders_of, planted_for, text_of
 from .sources import sources, texts
 
 MOST = 120                              # columns of a line
@@ -75,3 +79,35 @@ def definitions(text: str) -> Iterator[tuple[str, bool]]:
             if not line.startswith("pub mod "):
                 yield found.group(1), not before.startswith("--")
         before = line
+
+
+# One number names the state of all that is here: that of VERSION
+
+FORM = re.compile(r"\d+\.\d+\.\d+\n")
+# Which other files have it, and where
+PLACES = {"CHANGELOG.md": r"^## (\S+)", "dev/bench/plain/Cargo.toml": r'^version = "(.*)"',
+          "dev/bench/plain/Cargo.lock": r'name = "pip-plain"\nversion = "(.*)"',
+          "tools/editors/package.json": r'^  "version": "(.*)"'}
+
+
+def versions(program: str) -> None:
+    """Each other place has the number, and a newest entry of CHANGELOG.md is of it. Planted texts are tried first."""
+    number = text_of("VERSION")
+    ensure(FORM.fullmatch(number), f"VERSION is {number!r}, and no three numbers with points between them")
+    texts = {path: text_of(path) for path in PLACES}
+    for path in PLACES:
+        planted = {**texts, path: texts[path].replace(number.strip(), "0.0.0", 1)}
+        ensure([found.split(":")[0] for found in others(number.strip(), planted)] == [path], "a planted version of "
+               f"{path} isn't found")
+    found = list(others(number.strip(), texts))
+    if f'version = "{number.strip()}"' not in workspace.package("pip", "", Path(REPOSITORY)):
+        found.append("exported crates have another")
+    ensure(not found, "; ".join(found))
+
+
+def others(number: str, texts: dict[str, str]) -> Iterator[str]:
+    """Which texts have another number first."""
+    for path, pattern in PLACES.items():
+        named = re.search(pattern, texts[path], re.M)
+        if not named or named[1] != number:
+            yield f"{path}: {named[1] if named else 'no version'}, where VERSION says {number}"

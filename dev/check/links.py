@@ -1,12 +1,14 @@
-"""What a document links to in the repository, or names by its path from the top, is there; and so is each contract that
-PROVED.md names."""
+"""What a document links to in the repository, or names by its path from the top, is there; so is each contract that
+PROVED.md names; and examples/README.md has a line for each file."""
+
+from __future__ import annotations
 
 import os
 import re
 from collections.abc import Iterator
 
 from pages.rendering import anchor
-from .running import REPOSITORY, Differs, text_of, told_path
+from .running import REPOSITORY, Differs, ensure, paths, planted, text_of, told_path, write
 from .sources import sources
 
 LINK = re.compile(r"\]\(([^)\s]+)\)")
@@ -19,22 +21,20 @@ def links(program: str) -> None:
     anchors: dict[str, set[str]] = {}
     for path in documents(REPOSITORY):
         for name in PATH.findall(without_code(path)):
-            if not any(part in name for part in LEFT_OUT_PATHS) and not os.path.exists(os.path.join(REPOSITORY, name)):
-                raise Differs(f"{told_path(path)}: {name} isn't there")
+            ensure(any(part in name for part in LEFT_OUT_PATHS) or os.path.exists(os.path.join(REPOSITORY, name)),
+                   f"{told_path(path)}: {name} isn't there")
         for target in LINK.findall(without_code(path)):
             if re.match("[a-z]+:", target):
                 continue
             name, _, anchor = target.partition("#")
             place = os.path.normpath(os.path.join(os.path.dirname(path), name)) if name else path
-            if not os.path.exists(place):
-                raise Differs(f"{told_path(path)}: {target} isn't there")
-            if anchor and anchor not in anchors.setdefault(place, headings(place)):
-                raise Differs(f"{told_path(path)}: {target} names no heading")
+            ensure(os.path.exists(place), f"{told_path(path)}: {target} isn't there")
+            ensure(not anchor or anchor in anchors.setdefault(place, headings(place)), f"{told_path(path)}: {target} "
+                   "names no heading")
     contracts()
     from . import checks        # which has this one in its list
     unknown = set(checks_named()) - set(checks.CHECKS)
-    if unknown:
-        raise Differs(f"documents name checks that aren't there: {', '.join(sorted(unknown))}")
+    ensure(not unknown, f"documents name checks that aren't there: {', '.join(sorted(unknown))}")
 
 
 def checks_named() -> Iterator[str]:
@@ -51,8 +51,8 @@ def checks_named() -> Iterator[str]:
 def contracts() -> None:
     """Each contract in the table of PROVED.md is one of its crate. A planted one that isn't is tried first."""
     text = text_of("docs/PROVED.md")
-    if list(gone(text.replace("`soak_load`", "`soak_loads`"))) != ["pip_soak has no soak_loads"]:
-        raise Differs("docs/PROVED.md: a contract that isn't there isn't found")
+    ensure(list(gone(text.replace("`soak_load`", "`soak_loads`"))) == ["pip_soak has no soak_loads"],
+           "docs/PROVED.md: a contract that isn't there isn't found")
     if list(gone(text)):
         raise Differs(f"docs/PROVED.md: {', '.join(gone(text))}")
 
@@ -87,3 +87,66 @@ def headings(path: str) -> set[str]:
     for title in titles:
         found.append(anchor(title, found))
     return set(found)
+
+
+# examples/README.md has a line for each file: the first sentence of its first remark, and what stands beside it
+
+INDEX = "examples/README.md"
+FOLDERS = ("examples", "examples/every", "examples/apart", "examples/sessions", "examples/tutorial")
+SHOWN = (".pip", ".s", ".asmx", ".may")          # files of their own line, by their endings
+BEGIN = "<!-- the files, by dev/check/run.py --write-index -->\n"
+SENTENCE = re.compile(r"(.*?[^.A-Z])(?:\.(?=\s|$)|$)")
+# What stands beside scripts and programs
+BESIDE = (".out", ".run", ".every", ".apart", ".against", ".again", ".comes", ".any",
+          ".session")
+
+
+def index(program: str) -> None:
+    """The page is as the files are. That another remark, and a file more, are seen is tried first."""
+    files = {"examples/one.pip": "# One: a word. Look at it.\n# More.\nboot 16 1\n", "examples/one.out": "boot 16 1\n"}
+    with planted(files) as top:
+        rows = list(rows_of(top, "examples"))
+    ensure(rows == ["| [one.pip](one.pip) | One: a word | `out` |"], f"planted examples have the lines {rows}")
+    before, _, after = text_of(INDEX).partition(BEGIN)
+    ensure(after == listed(REPOSITORY), f"{INDEX} isn't as the files are: dev/check/run.py --write-index")
+    endings = {os.path.splitext(path)[1] for path in paths("examples/**/*.*") if not path.endswith((".md", ".html"))}
+    if missing := sorted(ending for ending in endings if f"`{ending}`" not in before):
+        raise Differs(f"{INDEX} doesn't say what a file {missing[0]} is")
+
+
+def rewrite() -> None:
+    """Writes the lines of the files, after what the page says of their kinds."""
+    before = text_of(INDEX).partition(BEGIN)[0]
+    write(before + BEGIN + listed(REPOSITORY), REPOSITORY, INDEX)
+
+
+def listed(top: str) -> str:
+    """The lines of all files, by folder."""
+    return "".join(f"\n## {folder}\n\n| file | what it shows | beside it |\n|---|---|---|\n"
+                   + "".join(row + "\n" for row in rows_of(top, folder)) for folder in FOLDERS)
+
+
+def rows_of(top: str, folder: str) -> Iterator[str]:
+    place = os.path.join(top, folder)
+    names = sorted(os.listdir(place))
+    for name in (name for name in names if name.endswith(SHOWN)):
+        stem = os.path.splitext(name)[0]
+        beside = ", ".join(f"`{other[len(stem) + 1:]}`" for other in names if other.startswith(f"{stem}.")
+                           and other.endswith(BESIDE))
+        path = os.path.relpath(os.path.join(folder, name), "examples")
+        yield f"| [{path}]({path}) | {first_sentence(os.path.join(place, name))} | {beside} |"
+
+
+def first_sentence(path: str) -> str:
+    """The first sentence of a file's first remark."""
+    with open(path, encoding="utf-8") as file:
+        lines = file.read().splitlines()
+    remark = []
+    for line in lines:
+        if not line.startswith("# "):
+            break
+        remark.append(line[2:].strip())
+    found = SENTENCE.match(" ".join(remark))
+    if not found:
+        raise Differs(f"{told_path(path)}: its first line isn't a remark that says what it shows")
+    return found[1].replace("|", "\\|")

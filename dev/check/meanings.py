@@ -6,7 +6,7 @@ import re
 from typing import Any
 
 from common import meanings
-from .running import Differs, text_of, write
+from .running import Differs, ensure, text_of, write
 
 PAGE = "docs/FORMATS.md"
 TOOLS = "tools/README.md"        # it has the lines of tools/asmx
@@ -32,8 +32,7 @@ def same(program: str) -> None:
     text = text_of(PAGE)
     for planted, due in ((text.replace("| an address is 0 |", "| an address is 1 |"), "statuses"),
                          (text.replace("## Calls by number", "## Calls"), "")):
-        if due != found(planted):
-            raise Differs(f"a planted change of docs/FORMATS.md isn't found: {due or 'a heading'}")
+        ensure(due == found(planted), f"a planted change of docs/FORMATS.md isn't found: {due or 'a heading'}")
     if part := found(text):
         raise Differs(f"docs/FORMATS.md has other {part} than tools/common/meanings.json: run.py --write-meanings "
                       "takes those of the page")
@@ -45,11 +44,11 @@ def found(text: str) -> str:
         made = of_page(text)
     except Differs:
         return ""
-    return next((part for part, rows in made.items() if rows != meanings.data().get(part)), "")
+    return next((part for part, rows in made.items() if rows != meanings.TOLD.get(part)), "")
 
 
 def rewrite() -> None:
-    write(json.dumps(of_page(text_of(PAGE)), indent=1, ensure_ascii=False) + "\n", meanings.DATA)
+    write(json.dumps(of_page(text_of(PAGE)), indent=1, ensure_ascii=False) + "\n", str(meanings.DATA))
 
 
 def of_page(text: str) -> dict[str, Any]:
@@ -103,6 +102,5 @@ def causes(text: str) -> dict[str, list[str]]:
     menus = rows(text, "### against")
     told.update({"menu " + kind: [row for row in menus if row[0] == f"`{kind}`"] for kind in OF_MENUS})
     lacks = [name for name, row in told.items() if len(row) != 1]
-    if lacks:
-        raise Differs(f"docs/FORMATS.md hasn't one row for {', '.join(lacks)}")
+    ensure(not lacks, f"docs/FORMATS.md hasn't one row for {', '.join(lacks)}")
     return {name: row for name, (row,) in told.items()}

@@ -10,8 +10,8 @@ from typing import Any
 from common.machine.model import World
 from common.machine import image as reference_image, runs, script
 from .authors import built_of, liar
-from .running import (REPOSITORY, SECONDS, Differs, contents, part, paths, run, same, says, session, text_of, told_path,
-                      tool)
+from .running import (REPOSITORY, SECONDS, Differs, contents, ensure, part, paths, run, same, says, session, text_of,
+                      told_path, tool)
 
 MOST_LINES = 60          # of a script: a longer one may have too many tables
 
@@ -39,13 +39,13 @@ def script_page(program: str, path: str) -> None:
     """The page of a script has the program's answers, and after each line the tree that the reference has."""
     name = told_path(path)
     page = says(program, ("step/step", path, "--to", str(MOST_LINES)), kind=">")
-    if re.search(r"(src|href)=|url\(|https?:", page):
-        raise Differs(f"class/step {name}: the page loads something from elsewhere")
+    ensure(not re.search(r"(src|href)=|url\(|https?:", page), f"class/step {name}: the page loads something from "
+           "elsewhere")
     data = data_of(page)
     answers = [step["answer"] for step in data["steps"]]
     due = run([program, "script"], contents(path))[0].decode().splitlines()
-    if answers != due[:len(answers)] or len(answers) < min(len(due), MOST_LINES // 2):
-        raise Differs(f"class/step {name}: the answers aren't the program's")
+    ensure(answers == due[:len(answers)] and len(answers) >= min(len(due), MOST_LINES // 2), f"class/step {name}: the "
+           "answers aren't the program's")
     told = script.Script()
     steps = iter(enumerate(data["steps"]))
     for line in script.lines(contents(path))[:MOST_LINES]:
@@ -64,8 +64,8 @@ def same_state(what: str, data: Any, step: Any, world: World) -> None:
     partitions = [data["partitions"][place] for place in data["trees"][step["tree"]]]
     due = [line.split(" ") for line in runs.tree_lines(world.tree)]
     rows = [f"row 0x{4096 * row[0]:08x} {row[1] // 4096}" for x in partitions for row in x["rows"]]
-    if rows != [" ".join(words[:3]) for words in due if words[0] == "row"]:
-        raise Differs(f"{what}: the page's rows aren't the reference's")
+    ensure(rows == [" ".join(words[:3]) for words in due if words[0] == "row"], f"{what}: the page's rows aren't the "
+           "reference's")
     for x, words in zip(partitions, (words for words in due if words[0] == "part")):
         told = [str(x["name"]), str(x["depth"]), str(x["up"]), f"0x{x['born']:08x}"]
         told += [str(len(x["tables"])), str(len(x["rows"]))]
@@ -89,8 +89,8 @@ def run_page(program: str, name: str, steps: int, path: str) -> None:
     image = contents(built_of(program, f"examples/{name}.s", path))
     data = data_of(says(program, ("step/step", path, str(steps), "1"), kind=">"))
     lines = [f"{step['place'] - 1} {step['answer']}" for step in data["steps"] if step["answer"]]
-    if lines != run([program, "run", str(steps), "1"], image)[0].decode().splitlines()[1:-1]:
-        raise Differs(f"class/step of {name}: the lines aren't those of 'run'")
+    ensure(lines == run([program, "run", str(steps), "1"], image)[0].decode().splitlines()[1:-1], "class/step of "
+           f"{name}: the lines aren't those of 'run'")
     world = runs.steps(reference_image.read(image), steps, 1, lambda line: None)
     same_words(f"class/step of {name}", data, steps, world)
     same_state(f"class/step of {name}", data, data["steps"][-1], world)
@@ -116,8 +116,8 @@ def hostile(program: str) -> None:
     session("step", program)
     page, messages, status = stepped(program, "-", text=b"# </script><img src=x>\nboot 16 1\n# \xff\nld 0 0\n<b>\n")
     data = data_of(page)
-    if status or [step["answer"] for step in data["steps"]] != ["boot 16 1", "park 1 14", "bad line 5"]:
-        raise Differs(f"class/step, with marks in the text: status {status}, {messages!r}")
+    ensure(not status and [step["answer"] for step in data["steps"]] == ["boot 16 1", "park 1 14", "bad line 5"],
+           f"class/step, with marks in the text: status {status}, {messages!r}")
     says("/nonexistent", ("step/step", "-"), 2, "can't be run", text=b"boot 16 1\n")
 
 
@@ -136,7 +136,7 @@ def teachers_loop(program: str) -> None:
         is_page = all(contents(os.path.join(place, name)).startswith(b"<!doctype html>") for name in made)
     due = [os.path.basename(path)[:-4] + ".html" for path in paths("examples/tutorial/[0-9]*.pip")
            if "answer" not in path]
-    if done.returncode or made != due or len(due) < 10 or not is_page:
-        raise Differs(f"the loop of docs/TEACHING.md makes {made}, where {due} are due: {done.stderr.decode()[-200:]}")
-    if [sorted(os.listdir(folder)) for folder in folders] != before:
-        raise Differs("the loop of docs/TEACHING.md leaves something in the checkout")
+    ensure(not done.returncode and made == due and len(due) >= 10 and is_page, "the loop of docs/TEACHING.md makes "
+           f"{made}, where {due} are due: {done.stderr.decode()[-200:]}")
+    ensure([sorted(os.listdir(folder)) for folder in folders] == before, "the loop of docs/TEACHING.md leaves "
+           "something in the checkout")

@@ -19,8 +19,8 @@ from reference import generate
 from . import cheats, corners
 from . import pages as step_pages
 from .exporting import SECONDS, need_cargo
-from .running import (REPOSITORY, Differs, Skipped, agree, called, contents, each, generated, needed, paths, run, same,
-                      told_path, write)
+from .running import (REPOSITORY, Differs, Skipped, agree, called, contents, each, ensure, generated, needed, paths,
+                      run, same, told_path, write)
 
 PLAYGROUND = os.path.join(REPOSITORY, "class", "playground")
 CASES = 20               # of each command
@@ -72,8 +72,7 @@ def make(path: str) -> None:
     told = done.stdout.decode("utf-8", "replace")
     if told.startswith(NO_TARGET):
         raise Skipped("no wasm32 target for cargo")
-    if done.returncode:
-        raise Differs(f"the module isn't made: {told[-3000:]}")
+    ensure(not done.returncode, f"the module isn't made: {told[-3000:]}")
 
 
 # The states of the page
@@ -89,17 +88,11 @@ def scripts() -> list[str]:
     return paths("examples/**/*.pip")
 
 
-def answers_of(script: str) -> bool:
-    """Whether a script has its answers beside it."""
-    return os.path.exists(script[:-len(".pip")] + ".out")
-
-
 def same_states(program: str, script: str) -> None:
     name = told_path(script)
     page, messages, status = step_pages.stepped(program, script, "--to", str(step_pages.MOST_LINES))
     # The solution of break-in goes on where the exercise's script ends: there is no machine in it.
-    if status and "step: bad line" not in messages:
-        raise Differs(f"class/step {name}: {messages}")
+    ensure(not status or "step: bad line" in messages, f"class/step {name}: {messages}")
     due = {"steps": []} if status else step_pages.data_of(page)
     count = sum(1 for step in due["steps"] if not step["answer"].startswith("bad line"))
     told = lines_of(asked("states", made(), str(max(count, 1))), contents(script))
@@ -140,11 +133,9 @@ def refused_as(program: str, kind: str, texts: list[bytes], least: int) -> None:
     with tempfile.TemporaryDirectory() as place:
         files = [write(text, place, str(k)) for k, text in enumerate(texts)]
         told = lines_of(asked("why", made(), facts(), kind, *files))
-    if len(told) != len(texts):
-        raise Differs(f"the page explains {len(told)} texts of {len(texts)}")
+    ensure(len(told) == len(texts), f"the page explains {len(told)} texts of {len(texts)}")
     refused = sum(same_reason(program, text, json.loads(line), kind == "asm") for text, line in zip(texts, told))
-    if refused < least:
-        raise Differs(f"the page: only {refused} of {len(texts)} texts are refused")
+    ensure(refused >= least, f"the page: only {refused} of {len(texts)} texts are refused")
 
 
 @functools.lru_cache(maxsize=None)
@@ -154,27 +145,21 @@ def facts() -> str:
 
 
 def generated_texts(command: str) -> Iterator[bytes]:
-    return filter(is_utf8, (generate.case(command, FIRST_SEED + k)[1] for k in range(CASES_OF_REASONS)))
-
-
-def is_utf8(text: bytes) -> bool:
-    try:
-        return text.decode() is not None
-    except UnicodeDecodeError:
-        return False
+    """Those that are UTF-8."""
+    texts = (generate.case(command, FIRST_SEED + k)[1] for k in range(CASES_OF_REASONS))
+    return (text for text in texts if text.decode("utf-8", "ignore").encode() == text)
 
 
 def same_reason(program: str, text: bytes, told: Any, as_assembly: bool) -> bool:
     """Whether a text is refused; what the page says of it has to be what why.py says."""
     sentences, good = why.why(program, "text", text, as_assembly)
-    if good != (told is None):
-        raise Differs(f"the page, {text!r}: {told}, where {sentences} is due")
+    ensure(good == (told is None), f"the page, {text!r}: {told}, where {sentences} is due")
     if good:
         return False
     page = [f"text:{told['place']}:{told['column']}: {told['here']}", f"rule: {told['rule']}"]
     page += [f"what to do: {told['act']}"] * bool(told["act"])
-    if page != [sentence for sentence in sentences if not sentence.startswith("    ")]:
-        raise Differs(f"the page, {text!r}: {page}, where {sentences} is due")
+    ensure(page == [sentence for sentence in sentences if not sentence.startswith("    ")], f"the page, {text!r}: "
+           f"{page}, where {sentences} is due")
     return True
 
 
@@ -200,8 +185,7 @@ def same_run(program: str, source: str, seed: int) -> None:
         for first in windows(program, image, seed):
             page, messages, status = step_pages.stepped(program, image, str(first + STEPS), str(seed), "--source",
                                                         source, "--from", str(first), "--jobs", "1")
-            if status:
-                raise Differs(f"class/step {source}: {messages}")
+            ensure(not status, f"class/step {source}: {messages}")
             same_window(f"the page of {told_path(source)}, seed {seed}", text, seed, first, step_pages.data_of(page))
 
 
@@ -248,8 +232,7 @@ def judge(program: str) -> None:
     needed("node")
     cheats.need_judge()
     all_asked = [one.decode("utf-8", "replace") for one in requests()]
-    if len(all_asked) < LEAST:
-        raise Differs(f"there are {len(all_asked)} requests to the judge")
+    ensure(len(all_asked) >= LEAST, f"there are {len(all_asked)} requests to the judge")
     lines = "".join(json.dumps(one) + "\n" for one in all_asked)
     found = list(map(json.loads, lines_of(asked("judge", made()), lines.encode())))
     same("the requests that the module's judge answers", len(found), len(all_asked))

@@ -14,7 +14,7 @@ from exercises import judging
 from . import pages, playground, sites
 from .authors import built_of
 from .browser import PAUSE, Browser, Failed, found
-from .running import REPOSITORY, Differs, Skipped, paths, text_of, write
+from .running import REPOSITORY, Differs, Skipped, ensure, paths, text_of, write
 
 LONG_LINES = 1_100_000           # of "ld 0 0x400000": nearly as many bytes as an input may have
 LONGEST_WAIT = 2.0               # seconds in which the page has to answer while the worker is at that
@@ -62,7 +62,7 @@ def in_browser(program: str) -> None:
     if not found():
         raise Skipped("no Chromium")
     path = os.path.join(sites.made(), "playground.html")
-    answered = [script for script in playground.scripts() if playground.answers_of(script)]
+    answered = [script for script in playground.scripts() if os.path.exists(script[:-len("pip")] + "out")]
     checked = len(answered) + len(paths("examples/*.run"))
     names = {**NAMES, "COUNT": str(checked), "NO_TABLE": meanings.of_status(9),
              "SOLUTION": text_of(judging.solutions()["store"]), "SERVICES": text_of("examples/timer_and_services.s")}
@@ -111,8 +111,7 @@ def long_file(shown: Browser) -> None:
         longest = max(longest, time.monotonic() - begun)
         time.sleep(PAUSE)
     shown.due(f"$('#status').includes('{LONG_LINES + 1} lines of answers')")
-    if longest > LONGEST_WAIT:
-        raise Differs(f"the page in a browser waits {longest:.1f} seconds while a long file is read")
+    ensure(longest <= LONGEST_WAIT, f"the page in a browser waits {longest:.1f} seconds while a long file is read")
 
 
 # Whether the answer that is shown is whole and in view

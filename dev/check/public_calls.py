@@ -11,11 +11,11 @@ from collections.abc import Iterable, Iterator
 from common.blocks import blocks, parted
 from exporter.tokens import braces_end
 from .counters import NO_CODE
-from .running import REPOSITORY, Differs, planted, text_of, write
+from .running import REPOSITORY, Differs, ensure, part, planted, text_of, write
 from .sources import sources
 
 LIST = os.path.join(os.path.dirname(os.path.abspath(__file__)), "public_calls.txt")
-NAME = re.compile(r"(?:(?:const|struct|enum) )?(\w+(?:::\w+)?)")
+NAME = r"(?:(?:const|struct|enum) )?(\w+(?:::\w+)?)"
 WIDTH = 112                                  # columns of a line of the list, after its indentation
 
 # What is listed: of each crate its calls and types by their names, each with its lines
@@ -30,14 +30,12 @@ def public_calls(program: str) -> None:
     """Each call of the list is as it says. That each kind of change is found is tried first, on planted libraries."""
     with planted({PLACE: PLANTED}) as top:
         due = written(top, "pip_planted:\n    SIZE\n    Table::find\n    Rows::count\n    Rows::found\n    look\n")
-    if due != LISTED:
-        raise Differs(f"a planted library is listed as {due}")
+    ensure(due == LISTED, f"a planted library is listed as {due}")
     for title, text in CHANGED.items():
         what, _, names = title.partition(": ")
         found = [difference.split(" ")[1] for difference in changes(*(
             "\n".join(line[2:] for line in text.splitlines() if line.startswith(mark)) for mark in ("- ", "+ ")))]
-        if found != names.split():
-            raise Differs(f"a planted change of {names or 'nothing'} is seen as one of {found}: {what}")
+        ensure(found == names.split(), f"a planted change of {names or 'nothing'} is seen as one of {found}: {what}")
     if found := list(differences(REPOSITORY, text_of(LIST))):
         raise Differs("; ".join(found))
 
@@ -49,14 +47,8 @@ def rewrite() -> None:
 
 def listed(text: str) -> Items:
     """What a list says. A line that is further in goes on with the one above it."""
-    return {(title.rstrip(":"), name_of(head)): re.sub(r"\n {4,}", " ", f"{head}\n{lines}").strip().split("\n")
+    return {(title.rstrip(":"), part(NAME, head)): re.sub(r"\n {4,}", " ", f"{head}\n{lines}").strip().split("\n")
             for title, items in parted(text).items() for head, lines in parted(items).items()}
-
-
-def name_of(head: str) -> str:
-    found = NAME.match(head)
-    assert found
-    return found[1]
 
 
 def is_type(head: str) -> bool:
@@ -106,8 +98,7 @@ def shown(lines: list[str], others: list[str]) -> str:
 
 def changes(old: str, new: str) -> list[str]:
     """What differs from the planted library's list where a text in it is another."""
-    if PLANTED.count(old) != 1:
-        raise Differs(f"the planted library has {old!r} {PLANTED.count(old)} times")
+    ensure(PLANTED.count(old) == 1, f"the planted library has {old!r} {PLANTED.count(old)} times")
     with planted({PLACE: PLANTED.replace(old, new)}) as top:
         return list(differences(top, LISTED))
 

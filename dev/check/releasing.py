@@ -12,7 +12,7 @@ from typing import Any
 from common import calling
 from . import sites
 from .exporting import SECONDS
-from .running import REPOSITORY, Differs, contents, expect, finished, needed, run, text_of, write, write_program
+from .running import REPOSITORY, contents, ensure, expect, finished, needed, run, text_of, write, write_program
 
 VERSION = text_of("VERSION").strip()
 GATE = "#!/bin/sh\ncp {program} crates/pip/out/pip\ncp {lab} crates/pip_lab/out/pip_lab\necho '1 passed, 0 failed'\n"
@@ -66,16 +66,14 @@ def used(program: str, place: str, tools: str) -> None:
     expect("./lab of a release", run(["sh", "-c", "./lab merge < /dev/null"], **settings),
            run([calling.lab(program), "merge"]))
     told, _ = run(["sh", "-c", "./pip --version"], stderr=subprocess.DEVNULL, **settings)
-    if not re.search(rb"^commit [0-9a-f]{40}\n", told, re.M) or not told.endswith(b"\nproved\n"):
-        raise Differs(f"./pip --version of a release says {told!r}")
+    ensure(re.search(rb"^commit [0-9a-f]{40}\n", told, re.M) and told.endswith(b"\nproved\n"), "./pip --version of a "
+           f"release says {told!r}")
     for words in ("class/exercise store examples/solutions/store.pip", "tools/debug examples/monitor.s --list 5",
                   "tools/every examples/two_guests.s 2000 --until 'reply 14'"):
         told, status = run(["sh", "-c", words], **settings)
-        if status:
-            raise Differs(f"{words} of a release ends with {status}: {told!r}")
+        ensure(not status, f"{words} of a release ends with {status}: {told!r}")
     expect("the checksums of a release",
            run(["sh", "-c", "grep -E '^[0-9a-f]{64}  ' PROOF | sha256sum --check --quiet"], **settings), (b"", 0))
     for name in ("site/index.html", "site/TUTORIAL.html", "site/engine.js", "rust/Cargo.toml",
                  "rust/crates/pip/src/main.rs"):
-        if not os.path.isfile(os.path.join(place, name)):
-            raise Differs(f"a release has no {name}")
+        ensure(os.path.isfile(os.path.join(place, name)), f"a release has no {name}")

@@ -11,6 +11,7 @@ import signal
 import subprocess
 import sys
 import tempfile
+import time
 from collections.abc import Callable, Iterable, Iterator, Mapping, Sequence
 from concurrent.futures import ThreadPoolExecutor
 from typing import Any, TypeVar
@@ -86,6 +87,12 @@ class Skipped(Exception):
     """Why a check can't be made here, as `no cargo`."""
 
 
+def ensure(good: object, why: str) -> None:
+    """Refuses what isn't good."""
+    if not good:
+        raise Differs(why)
+
+
 def needed(name: str) -> str:
     """The path of a tool; a check for which it is missing is skipped."""
     path = shutil.which(name)
@@ -102,6 +109,14 @@ def run(command: Sequence[str | bytes], text: bytes = b"", **streams: Any) -> Ou
     streams.setdefault("cwd", REPOSITORY)
     done = subprocess.run(command, timeout=SECONDS, **streams)
     return done.stdout, done.returncode
+
+
+def wait_until(is_so: Callable[[], object], why: str) -> None:
+    """Waits half a minute at most for something that has to come."""
+    limit = time.monotonic() + 30
+    while not is_so():
+        ensure(time.monotonic() <= limit, why)
+        time.sleep(0.05)
 
 
 def heed_interrupts() -> None:
@@ -121,8 +136,7 @@ def finished(what: str, words: Sequence[str], seconds: float | None = None, **se
     done = subprocess.run(words, stdin=subprocess.DEVNULL, stdout=subprocess.PIPE, stderr=subprocess.STDOUT,
                           timeout=seconds, **settings)
     told: str = done.stdout.decode("utf-8", "replace")
-    if done.returncode:
-        raise Differs(f"{what} ends with {done.returncode}:\n{told[-4000:]}")
+    ensure(not done.returncode, f"{what} ends with {done.returncode}:\n{told[-4000:]}")
     return told
 
 
@@ -153,15 +167,8 @@ def tool(program: str | None, name: str, *words: str, text: bytes = b"", place: 
     done = subprocess.run(called(name, *words, program=program, place=place), input=text, timeout=SECONDS,
                           stderr=subprocess.PIPE, **settings)
     messages = done.stderr.decode()
-    if "Traceback" in messages:
-        raise Differs(f"{name} {' '.join(words)}: {messages[-400:]}")
+    ensure("Traceback" not in messages, f"{name} {' '.join(words)}: {messages[-400:]}")
     return (done.stdout or b"").decode("utf-8", "replace"), messages, done.returncode
-
-
-def commands_of(text: str) -> list[tuple[str, bytes]]:
-    """The commands of a session, each after `$ `, with what is shown below it."""
-    parts = (told.rstrip("\n").partition("\n") for told in f"\n{text}".split("\n$ ")[1:])
-    return [(command, (shown + newline).encode()) for command, newline, shown in parts]
 
 
 def copied(place: str, *names: str, without: Sequence[str] = ()) -> None:
@@ -222,8 +229,7 @@ def expect(what: str, got: tuple[bytes | None, int], wanted: tuple[bytes | None,
     if got == wanted:
         return
     (output, status), (text, due) = got, wanted
-    if status != due:
-        raise Differs(f"{what}: status {status}, where {due} is due; it wrote {short(output)}")
+    ensure(status == due, f"{what}: status {status}, where {due} is due; it wrote {short(output)}")
     place, ours, theirs = first_difference((text or b"").split(b"\n"), (output or b"").split(b"\n"))
     raise Differs(f"{what}: line {place + 1} of the output is {short(theirs)}, where {short(ours)} is due")
 

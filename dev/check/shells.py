@@ -11,7 +11,7 @@ import termios
 import time
 
 from . import running
-from .running import REPOSITORY, SECONDS, Differs, called, contents, heed_interrupts, run, same, text_of
+from .running import REPOSITORY, SECONDS, Differs, called, contents, ensure, heed_interrupts, run, same, text_of
 
 
 def says(program: str, text: str, *words: str) -> str:
@@ -20,13 +20,6 @@ def says(program: str, text: str, *words: str) -> str:
 
 def expect(what: str, got: object, due: object) -> None:
     same(f"tools/shell, {what}", got, due)
-
-
-def through_a_pipe(program: str) -> None:
-    session_of_the_page(program)
-    costs_nothing(program)
-    keeps_files(program)
-    each_example(program)
 
 
 def session_of_the_page(program: str) -> None:
@@ -44,8 +37,8 @@ def costs_nothing(program: str) -> None:
     for line in bad:
         told = says(program, f"{begun}{line}\nld 0 0x400000\n").splitlines()
         has_rule = any(x.startswith("rule: ") for x in told)
-        if told[-1] != "0x00000007" or not told[2].startswith("bad line, nothing is changed: ") or not has_rule:
-            raise Differs(f"tools/shell, after the bad line {line[:30]!r}: {told}")
+        ensure(told[-1] == "0x00000007" and told[2].startswith("bad line, nothing is changed: ") and has_rule,
+               f"tools/shell, after the bad line {line[:30]!r}: {told}")
     expect("undo of a store", says(program, begun + "undo\nld 0 0x400000\n"),
            "boot 64 1\ndone\ntaken back: st 0 0x400000 7\n0x00000000\n")
     expect("undo of two lines", says(program, begun + "# a\nundo 2\nlist\nundo\n").splitlines()[-4:][1:],
@@ -56,8 +49,7 @@ def costs_nothing(program: str) -> None:
             "    partition 22, at 0xffc0a000 of 13: N pages", tree[-1]])
     entered = says(program, text_of("examples/solutions/enter.pip") + "tree\n").splitlines()
     expect("what runs", ["runs on processor 0" in line for line in entered[-2:]], [False, True])
-    if not tree[-1].startswith("yes    # 3 partitions"):
-        raise Differs(f"tools/shell, audit: {tree[-1]!r}")
+    ensure(tree[-1].startswith("yes    # 3 partitions"), f"tools/shell, audit: {tree[-1]!r}")
 
 
 def keeps_files(program: str) -> None:
@@ -101,8 +93,7 @@ def on_a_terminal(program: str) -> None:
                           (b"ld 0 0x40\x03", "pip> "), (b"ld 0 0x400000\r", "0x00000000\r\npip> "), (b"\x04", "")):
             os.write(outer, keys)
             wait_for(outer, due)
-        if begun.wait(SECONDS):
-            raise Differs(f"tools/shell on a terminal ends with status {begun.returncode}")
+        ensure(not begun.wait(SECONDS), f"tools/shell on a terminal ends with status {begun.returncode}")
     finally:
         begun.kill()
         begun.wait()
@@ -117,8 +108,8 @@ def take_terminal(terminal: int) -> None:
 def wait_for(terminal: int, due: str) -> None:
     shown, limit = "", time.monotonic() + SECONDS
     while due not in shown:
-        if not select.select([terminal], [], [], max(limit - time.monotonic(), 0))[0]:
-            raise Differs(f"tools/shell on a terminal: {shown!r}, where {due!r} is due")
+        ensure(select.select([terminal], [], [], max(limit - time.monotonic(), 0))[0], "tools/shell on a terminal: "
+               f"{shown!r}, where {due!r} is due")
         try:
             shown += os.read(terminal, 4096).decode("utf-8", "replace")
         except OSError:                              # nobody has the other end any more

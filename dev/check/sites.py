@@ -14,9 +14,10 @@ from typing import Any
 
 from exercises import judging
 from pages import rendering
+from pages.runnable import has_part
 from . import playground
 from .browser import Browser, Failed, found
-from .running import Differs, Skipped, finished, called, needed, run, text_of
+from .running import Differs, Skipped, called, ensure, finished, needed, run, text_of
 
 RUNS = re.compile(r'data-run="([^"]*)"')
 CHAPTERS = ("index", "TUTORIAL", "EXERCISES", "FORMATS")         # whose looks are judged
@@ -55,8 +56,8 @@ def in_node(program: str) -> None:
     """Each block of each page, by the worker and the module that the site has. A planted answer is found."""
     needed("node")
     all_blocks = [(page, told) for page in pages() for told in blocks(page) if told["kind"] != "exercise"]
-    if sum(page == "TUTORIAL.html" for page, _ in all_blocks) < LEAST:
-        raise Differs("the site's tutorial has hardly a block that runs")
+    ensure(sum(page == "TUTORIAL.html" for page, _ in all_blocks) >= LEAST, "the site's tutorial has hardly a block "
+           "that runs")
     answered = answers([told for _, told in all_blocks])
     for (page, told), parts in zip(all_blocks, answered):
         if why := wrong(told, shown(told, parts)):
@@ -68,8 +69,7 @@ def answers(all_told: Sequence[Told]) -> list[list[Told]]:
     lines = "".join(json.dumps(asked(told)) + "\n" for told in all_told)
     words = ["node", os.path.join(playground.PLAYGROUND, "asked.mjs"), os.path.join(made(), "engine.js")]
     found = [json.loads(line) for line in run(words, lines.encode())[0].splitlines()]
-    if len(found) != len(all_told):
-        raise Differs(f"the site's worker answers {len(found)} of {len(all_told)} requests")
+    ensure(len(found) == len(all_told), f"the site's worker answers {len(found)} of {len(all_told)} requests")
     return found
 
 
@@ -116,20 +116,16 @@ def wrong(told: Told, given: Sequence[Sequence[str]]) -> str:
     return ""
 
 
-def has_part(whole: Sequence[str], part: Sequence[str]) -> bool:
-    return any(list(whole[at:at + len(part)]) == list(part) for at in range(len(whole)))
-
-
 def planted() -> None:
     """A printed answer, a line of a trace and a line below a command that are changed are found, each in its block."""
     of_kinds = {told["kind"]: told for told in blocks("TUTORIAL.html") if printed(told)}
     for told in of_kinds.values():
         spoilt = json.loads(json.dumps(told))
         printed(spoilt)[-1][-1] = "another line"
-        if not wrong(spoilt, shown(spoilt, answers([spoilt])[0])):
-            raise Differs(f"the site: a planted answer of {told['where']} isn't found")
-    if set(of_kinds) != {"script", "program", "session"}:
-        raise Differs(f"the site: the tutorial prints only answers of {sorted(of_kinds)}")
+        ensure(wrong(spoilt, shown(spoilt, answers([spoilt])[0])), f"the site: a planted answer of {told['where']} "
+               "isn't found")
+    ensure(set(of_kinds) == {"script", "program", "session"}, "the site: the tutorial prints only answers of "
+           f"{sorted(of_kinds)}")
 
 
 def printed(told: Told) -> list[list[str]]:

@@ -4,7 +4,7 @@ import os
 import re
 from collections.abc import Iterator
 
-from .running import REPOSITORY, Differs, planted_for, text_of
+from .running import REPOSITORY, ensure, planted_for, text_of
 
 IMPORT = re.compile(r"^\s*ghost use [^{\n]*\{([^}\n]*)\};$")
 
@@ -12,11 +12,9 @@ IMPORT = re.compile(r"^\s*ghost use [^{\n]*\{([^}\n]*)\};$")
 def ghost_imports(program: str) -> None:
     """Each name that a clause's import brings is used in its file. A planted file is tried first."""
     with planted_for("imports") as place:
-        if [name for _, name in imports_in_vain(place)] != ["◌<◌", "length"]:
-            raise Differs("planted imports aren't found")
+        ensure([name for _, name in imports_in_vain(place)] == ["◌<◌", "length"], "planted imports aren't found")
     found = [f"{path}: {name}" for path, name in imports_in_vain(REPOSITORY)]
-    if found:
-        raise Differs(f"nothing uses what is imported in {', '.join(found)}")
+    ensure(not found, f"nothing uses what is imported in {', '.join(found)}")
 
 
 def imports_in_vain(top: str) -> Iterator[tuple[str, str]]:

@@ -9,8 +9,8 @@ import sys
 import tempfile
 
 from reference import comparison
-from .running import (REPOSITORY, Check, Differs, Skipped, finished, folders_of, needed, paths, planted_for, text_of,
-                      told_path)
+from .running import (REPOSITORY, Check, Differs, Skipped, ensure, finished, folders_of, needed, paths, planted_for,
+                      text_of, told_path)
 
 CASES = {"script": 400, "asm": 200, "dis": 200, "run": 200, "tree": 100, "core": 100, "soak": 200, "native": 200,
          "slots": 200, "audit": 200, "every": 500, "against": 500, "apart": 300,
@@ -48,8 +48,8 @@ def pictures(program: str) -> None:
         subprocess.run([os.path.join(REPOSITORY, "tools", "common", "draw", "make_pictures.sh"), place], check=True)
         for name in sorted(os.listdir(place)):
             kept = os.path.join(REPOSITORY, "docs", name)
-            if not filecmp.cmp(os.path.join(place, name), kept, shallow=False):
-                raise Differs(f"docs/{name} isn't what tools/common/draw/make_pictures.sh makes")
+            ensure(filecmp.cmp(os.path.join(place, name), kept, shallow=False), f"docs/{name} isn't what "
+                   "tools/common/draw/make_pictures.sh makes")
 
 
 def tested(program: str, *modules: str) -> None:
@@ -82,20 +82,17 @@ OLD = re.compile(r"^from typing import "
 
 def types(program: str) -> None:
     """The tools are typed throughout, by `dict[..]` and its like. Planted modules are tried first."""
-    if not OLD.search("from typing import Any, Dict\n"):
-        raise Differs("a planted import of Dict isn't found")
+    ensure(OLD.search("from typing import Any, Dict\n"), "a planted import of Dict isn't found")
     for path in (path for folder in OF for path in paths(f"{folder}/**/*.py")):
-        if OLD.search(text_of(path)):
-            raise Differs(f"{told_path(path)} imports of typing what Python has itself")
+        ensure(not OLD.search(text_of(path)), f"{told_path(path)} imports of typing what Python has itself")
     mypy = needed("mypy")
     with planted_for("types") as place:
         told, status = judged(mypy, place)
         missing = [due for due in DUE if due not in told]
-        if status != 1 or missing:
-            raise Differs(f"planted modules: mypy ends with {status}, and doesn't say {missing}: {told}")
+        ensure(status == 1 and not missing, f"planted modules: mypy ends with {status}, and doesn't say {missing}: "
+               f"{told}")
     told, status = judged(mypy, REPOSITORY)
-    if status:
-        raise Differs(told)
+    ensure(not status, told)
 
 
 def judged(mypy: str, top: str) -> tuple[str, int]:

@@ -10,12 +10,11 @@ import signal
 import subprocess
 import sys
 import tempfile
-import time
 from typing import Any, IO
 
 from common import calling
 from common.blocks import blocks
-from .running import (REPOSITORY, SECONDS, Differs, heed_interrupts, needed, part, run, same, text_of, write,
+from .running import (REPOSITORY, SECONDS, ensure, heed_interrupts, needed, part, run, same, text_of, wait_until, write,
                       write_program)
 
 Process = subprocess.Popen[bytes]
@@ -91,8 +90,7 @@ def expect_told(what: str, got: Ended, output: str, status: int, *told: str, bui
     """Refuses another output, status or number of builds, and messages without one of these texts."""
     expect(what, got[:1] + got[2:3], (output, status))
     expect(f"{what}, builds", got[3], got[3] if builds is None else builds)
-    if not all(text in got[1] for text in told):
-        raise Differs(f"./pip, {what}, says {got[1]!r}")
+    ensure(all(text in got[1] for text in told), f"./pip, {what}, says {got[1]!r}")
 
 
 def wrapper(program: str) -> None:
@@ -146,8 +144,8 @@ def tells_its_progress(checkout: Checkout) -> None:
         checkout.touch("crates.txt")
         _, messages, _, _ = checkout.run("script", SECONDS_OF_MORE="3", MORE=more, SECONDS_LONG=str(seconds))
         lines = messages.splitlines()
-        if len(lines) < 3 or "Ctrl-C" not in lines[1] or lines[2:] != ["crate 1 of 3: pip_base", due]:
-            raise Differs(f"./pip, while it builds, says {messages!r}")
+        ensure(len(lines) >= 3 and "Ctrl-C" in lines[1] and lines[2:] == ["crate 1 of 3: pip_base", due],
+               f"./pip, while it builds, says {messages!r}")
 
 
 def says_where_it_fails(checkout: Checkout) -> None:
@@ -182,11 +180,8 @@ def in_turn(program: str) -> None:
 
 def begun(checkout: Checkout, seconds: str) -> Process:
     """A ./pip whose stand-in is at work for that long."""
-    begun, limit = checkout.begin("script", SECONDS_LONG=seconds), time.monotonic() + 20
-    while not checkout.counted():
-        if time.monotonic() > limit:
-            raise Differs("./pip didn't begin to build")
-        time.sleep(0.05)
+    begun = checkout.begin("script", SECONDS_LONG=seconds)
+    wait_until(checkout.counted, "./pip didn't begin to build")
     return begun
 
 
@@ -204,8 +199,7 @@ def is_ended(checkout: Checkout) -> None:
     builder = part(r"log of build (\d+)", text_of(checkout.path("build.log")))
     ended.terminate()
     expect("ended", checkout.ended(ended)[2], 143)
-    if os.path.exists("/proc/" + builder):
-        raise Differs("./pip, ended, leaves what builds running")
+    ensure(not os.path.exists("/proc/" + builder), "./pip, ended, leaves what builds running")
     expect("what a build that was ended leaves", left_of_builds(checkout), [])
 
 
@@ -240,8 +234,7 @@ def hands_on(checkout: Checkout) -> None:
         running = begun.stdout.readline().decode().strip()
         begun.send_signal(number)
         expect(f"after signal {number}", checkout.ended(begun)[2], -number)
-        if os.path.exists("/proc/" + running):
-            raise Differs(f"./pip, after signal {number}, leaves the program running")
+        ensure(not os.path.exists("/proc/" + running), f"./pip, after signal {number}, leaves the program running")
 
 
 def says_its_forms(checkout: Checkout) -> None:

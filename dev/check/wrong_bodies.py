@@ -8,10 +8,9 @@ import hashlib
 import time
 from collections.abc import Iterable
 
-from common.calling import Failed
 from edits import tried
 from edits.reading import ADMITTED, ALWAYS, GATE, TRIED, Edit, NotApplied, all_edits, edited
-from .running import REPOSITORY, Differs, Skipped, each, needed, part, planted_for, run, text_of
+from .running import REPOSITORY, Differs, Skipped, each, ensure, needed, part, planted_for, run, text_of
 
 DRAWN, CRATES = 10, 2    # how many are tried, and of how many crates at most
 SECONDS = 900            # after which no further one is begun
@@ -63,8 +62,7 @@ def drawn_edits(program: str) -> None:
     judged = [(edit, outcome) for found in results for edit, outcome in found
               if not outcome.startswith(tried.UNJUDGED)]
     wrong = [f"{edit.place}: {outcome}" for edit, outcome in judged if not tried.is_due(edit.kind, outcome)]
-    if wrong:
-        raise Differs(f"an edit that was refused once isn't: mend it, or the contract. {'; '.join(wrong)}")
+    ensure(not wrong, f"an edit that was refused once isn't: mend it, or the contract. {'; '.join(wrong)}")
     left = len(chosen) - len(judged)
     if left:
         raise Skipped(f"{left} of {len(chosen)} edits not judged in time")
@@ -73,13 +71,10 @@ def drawn_edits(program: str) -> None:
 def refused(chosen: list[Edit], chain: list[str], until: float) -> list[tuple[Edit, str]]:
     """What becomes of edits of one crate, up to a time."""
     found = []
-    try:
-        for outcome in tried.outcomes(chosen, chain):
-            found.append(outcome)
-            if time.monotonic() > until:
-                break
-    except Failed as why:
-        raise Differs(str(why)) from None
+    for outcome in tried.outcomes(chosen, chain):
+        found.append(outcome)
+        if time.monotonic() > until:
+            break
     return found
 
 
@@ -100,7 +95,6 @@ def drawing() -> None:
         chosen = drawn(planted, str(commit))
         seen.update(chosen)
         few = len({edit.crate for edit in chosen}) <= CRATES
-        if len(chosen) != DRAWN or not few or chosen != drawn(planted, str(commit)):
-            raise Differs(f"of planted edits {chosen} are drawn")
-    if seen != {edit for edit in planted if edit.kind == TRIED}:
-        raise Differs(f"of planted edits {len(seen)} are drawn in all")
+        ensure(len(chosen) == DRAWN and few and chosen == drawn(planted, str(commit)), f"of planted edits {chosen} are "
+               "drawn")
+    ensure(seen == {edit for edit in planted if edit.kind == TRIED}, f"of planted edits {len(seen)} are drawn in all")

@@ -19,7 +19,7 @@ from collections.abc import Iterator
 from pathlib import Path
 
 from common import calling
-from common.calling import REPOSITORY, Failed
+from common.calling import REPOSITORY, Failed, ensure
 from exporter import crates
 from .reading import ADMITTED, Edit, NotApplied, edited, edits_of
 
@@ -44,8 +44,7 @@ def tried() -> int:
     parser.add_argument("edits", nargs="*", metavar="EDIT", help="names of its edits, without `.edit`")
     given = parser.parse_args()
     known = chains(REPOSITORY)
-    if given.crate and given.crate not in known:
-        raise Failed(f"crates.txt has no crate {given.crate}")
+    ensure(not given.crate or given.crate in known, f"crates.txt has no crate {given.crate}")
     edits = [edit for crate in ([given.crate] if given.crate else known) for edit in edits_of(REPOSITORY, crate)]
     if not given.edits:
         for edit in edits:
@@ -53,8 +52,7 @@ def tried() -> int:
         return 0
     by_name = {edit.name: edit for edit in edits}
     for name in given.edits:
-        if name not in by_name:
-            raise Failed(f"{given.crate} has no edit {name}: dev/tried {given.crate} lists them")
+        ensure(name in by_name, f"{given.crate} has no edit {name}: dev/tried {given.crate} lists them")
     is_well = True
     for edit, outcome in outcomes([by_name[name] for name in given.edits], known[given.crate]):
         print(f"{edit.crate} {edit.name}: {outcome}", flush=True)

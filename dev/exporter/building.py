@@ -11,7 +11,7 @@ from dataclasses import dataclass
 from pathlib import Path
 
 from common import calling
-from common.calling import Failed
+from common.calling import ensure
 
 REPOSITORY = Path(calling.REPOSITORY)
 
@@ -93,9 +93,8 @@ class Program:
         workspace.write(folder, files)
 
     def build(self) -> None:
-        if not shutil.which("cargo"):
-            raise Failed(f"{self.what} is a program that cargo builds, and there is no cargo here: "
-                         f"install Rust 1.87 or later{self.without_cargo}")
+        ensure(shutil.which("cargo"), f"{self.what} is a program that cargo builds, and there is no cargo here: "
+               f"install Rust 1.87 or later{self.without_cargo}")
         print(f"building {self.what} by cargo; this takes about half a minute, once", file=sys.stderr)
         self.write(self.folder)
         words = ["cargo", "build", "--release", "--quiet", "--offline",
@@ -108,5 +107,4 @@ def run(what: str, words: Sequence[str], place: Path | None = None, settings: Ma
     """Runs a command that makes something, with settings of the environment, and shows what it said where it fails."""
     done = subprocess.run(words, env={**os.environ, **(settings or {})}, cwd=place, stdin=subprocess.DEVNULL,
                           stdout=subprocess.PIPE, stderr=subprocess.STDOUT)
-    if done.returncode:
-        raise Failed(f"{what} can't be made: {done.stdout.decode('utf-8', 'replace').strip()[-4000:]}")
+    ensure(not done.returncode, f"{what} can't be made: {done.stdout.decode('utf-8', 'replace').strip()[-4000:]}")

@@ -142,11 +142,8 @@ def comparison(part: str, types: dict[str, str], fields: bool) -> str | None:
 
 def joined(side: list[Term], wide: bool) -> str:
     """A sum. A wide one is made in a type in which nothing wraps."""
-    return " + ".join(cast(term) if wide and term.type else term.text for term in side)
-
-
-def cast(term: Term) -> str:
-    return re.sub(r"[^ ]*[a-z][^ ]*", lambda name: f"({name.group()} as u128)", term.text)
+    return " + ".join(re.sub(r"[^ ]*[a-z][^ ]*", r"(\g<0> as u128)", term.text) if wide and term.type else term.text
+                      for term in side)
 
 
 def product(text: str, types: dict[str, str], fields: bool) -> Term:

@@ -48,18 +48,13 @@ def exported(text: str, role: Role = Role(), names: Names | None = None) -> str:
     source = Source(text, names)
     edits = Edits(text)
     strip(source, edits)
-    give_runtime(source, edits)
+    for found in RUNTIME_TAKEN.finditer(source.code()):      # Rust hands `main` and the tests no runtime
+        edits.put(*found.span(1), "")
+        edits.put(found.end(), found.end(), f"\n    let {found[2]} = {RUNTIME};")
     new = with_documents(edits.done(), source.names)
     refuse_rest(Source(new))
     start = START if role.program else ""
     return with_head(new, head_of(source, role)) + start
-
-
-def give_runtime(source: Source, edits: Edits) -> None:
-    """`main` and the tests get their runtime from the library, since Rust hands them none."""
-    for found in RUNTIME_TAKEN.finditer(source.code()):
-        edits.put(*found.span(1), "")
-        edits.put(found.end(), found.end(), f"\n    let {found[2]} = {RUNTIME};")
 
 
 def refuse_rest(left: Source) -> None:

@@ -25,9 +25,6 @@ class Edits:
     def put(self, start: int, end: int, new: str) -> None:
         self.all.append((start, end, new))
 
-    def cut(self, start: int, end: int) -> None:
-        self.put(start, end, GONE)
-
     def done(self) -> str:
         """The changed text. A change inside of what is taken out counts for nothing."""
         pieces: list[str] = []
@@ -78,7 +75,8 @@ def keep_clauses(source: Source, function: int, clauses: list[Token], edits: Edi
     if documented:
         lines = ([""] if comments else []) + shown(source, function, clauses)
     else:
-        lines = lines_of(clauses)
+        lines = [line.strip() if number == 0 else "    " + line.strip()
+                 for clause in clauses for number, line in enumerate(clause.text.split("\n"))]
     mark = "///" if documented else "//"
     place = source.line_start(source.at(head).start)
     if comments:
@@ -129,12 +127,6 @@ def comments_at(source: Source, first: int, last: int) -> list[Token]:
         found.append(source.at(first))
         first += 1
     return found
-
-
-def lines_of(clauses: list[Token]) -> list[str]:
-    """The lines of clauses; those that go on are further in."""
-    return [line.strip() if number == 0 else "    " + line.strip()
-            for clause in clauses for number, line in enumerate(clause.text.split("\n"))]
 
 
 def keep_item(source: Source, first: int, last: int, edits: Edits) -> None:
@@ -198,7 +190,7 @@ def ghost_item(source: Source, place: int, edits: Edits) -> int:
     token = source.at(place)
     head = source.head(place)
     if re.match(r"ghost\s+use\b", token.text):
-        edits.cut(source.at(head).start, token.end)
+        edits.put(source.at(head).start, token.end, GONE)
     else:
         keep_item(source, head, place, edits)
     return place + 1

@@ -6,6 +6,7 @@ import re
 from pathlib import Path
 from collections.abc import Iterable
 
+from common.blocks import blocks
 from . import dependencies, pages
 from .crates import Crate
 from .rewriting import exported
@@ -13,32 +14,9 @@ from .tokens import Trouble
 
 HERE = Path(__file__).resolve().parent
 MARK = "# An export of ordinary Rust: dev/export made it, and makes it again.\n"
+PACKAGE, LIBRARY, PROFILE = blocks("manifests.txt", __file__).values()
 MADE = ("crates", "shims", ".cargo")  # the folders of which nothing else is left in an export
-PACKAGE = """[package]
-name = "{name}"
-version = "{version}"
-edition = "2024"
-rust-version = "1.87"
-description = "{description}"
-license = "Apache-2.0"
-keywords = ["kernel", "isolation", "hypervisor", "model", "no-std"]
-"""
-# No documentation of a source has an example that could be run.
-LIBRARY = """[lib]
-doctest = false
-
-[features]
-default = ["alloc"]
-# Memory of the program's allocator. Without it there is none, and `Frames` of your own are needed.
-alloc = ["{std}/alloc"]
-"""
 FIRST = re.compile(r"(?://!.*\n)+")
-PROFILE = """
-[profile.release]
-lto = true
-codegen-units = 1
-panic = "abort"
-"""
 
 
 def package(name: str, text: str, repository: Path) -> str:
@@ -59,7 +37,7 @@ def files_of(crates: list[Crate], repository: Path, config: str | None) -> dict[
     members = [f"crates/{crate.name}" for crate in crates] + [f"shims/{name}" for name in shims]
     names = "".join(f'    "{member}",\n' for member in members)
     lints = (HERE / "lints.toml").read_text(encoding="utf-8")
-    files = {"Cargo.toml": f'{MARK}\n[workspace]\nresolver = "3"\nmembers = [\n{names}]\n{PROFILE}\n{lints}',
+    files = {"Cargo.toml": f'{MARK}\n[workspace]\nresolver = "3"\nmembers = [\n{names}]\n\n{PROFILE}\n{lints}',
              "LICENSE": license_text, "README.md": (HERE / "export_readme.md").read_text(encoding="utf-8")}
     if config:
         files[".cargo/config.toml"] = config

@@ -6,8 +6,9 @@ import random
 import re
 from collections.abc import Iterator
 
-from common.machine import against, image as images
-from common.machine.every import AT_FIRST, After, Moment, begun
+from common.machine import against, image as images, runs
+from common.machine.against import Moment
+from common.machine.runs import AT_FIRST, After
 
 LINE = re.compile(r"(comes .*): (?:within (.*)|no((?: [^ :]+(?::d\d+)?(?:x\d+)?)*) :((?: \S+)+))")
 COUNT = re.compile(r"(\d+) of (\w+)")
@@ -22,20 +23,17 @@ def wrong(words: list[str], data: bytes, output: bytes) -> list[str]:
     lines = output.decode("utf-8", "surrogateescape").split("\n")
     image, text = images.parted(data)
     first = int(words[2]) if words[2:] and words[2] != "after" else 0
-    judge = Judge(image, first, after_of(words), against.menu_of(text))
-    return [line for line in lines if not judge.is_right(line)]
-
-
-def after_of(words: list[str]) -> After:
     place = words.index("after") if "after" in words else len(words)
-    return After(int(words[place + 1]), int(words[place + 2])) if words[place:] else AT_FIRST
+    after = After(*map(int, words[place + 1:])) if words[place:] else AT_FIRST
+    judge = Judge(image, first, after, against.menu_of(text))
+    return [line for line in lines if not judge.is_right(line)]
 
 
 class Judge:
     """What can happen to an image, choice by choice."""
 
     def __init__(self, image: images.Image, first: int, after: After, menu: against.Menu) -> None:
-        self.moments = against.MenuMoments(image, first, begun(image, after), menu.deeds)
+        self.moments = against.Moments(image, first, runs.steps(image, *after), menu.deeds)
         self.names = {self.moments.choice_text(choice): choice for choice in reversed(self.moments.choices)}
 
     def is_right(self, line: str) -> bool:

@@ -52,23 +52,19 @@ def slots_of(words: Sequence[str]) -> tuple[int, native.Round, int] | None:
     try:
         if len(words) == 3 and ":" not in words[2]:
             n, turns, rounds = map(script.number, map(str.encode, words))
-            round = native.in_turn(min(n, native.MOST_CHILDREN + 1), turns)
+            round = [(child, turns) for child in range(min(n, native.MOST_CHILDREN + 1))]
         else:
             n, rounds = map(script.number, map(str.encode, words[:2]))
-            round = [given_slot(word) for word in words[2:]]
+            slots = (word.encode().split(b":") for word in words[2:])
+            round = [(script.number(child), script.number(turns)) for child, turns in slots]
     except (ValueError, script.Bad):
         return None
     if not 1 <= n <= native.MOST_CHILDREN or not 1 <= len(round) <= native.MOST_SLOTS:
         return None
     if any(child >= n or turns > MOST_STEPS for child, turns in round):
         return None
-    return (n, round, rounds) if max(rounds, native.steps_of(round, rounds)) <= MOST_STEPS else None
-
-
-def given_slot(word: str) -> tuple[int, int]:
-    """The child and the turns of a slot that a word gives."""
-    child, turns = word.split(":")
-    return script.number(child.encode()), script.number(turns.encode())
+    steps = rounds * sum(turns + 2 for _, turns in round)
+    return (n, round, rounds) if max(rounds, steps) <= MOST_STEPS else None
 
 
 def pip(words: Sequence[str], text: bytes) -> tuple[bytes, int]:
@@ -135,10 +131,6 @@ def in_lines(told: Iterable[str]) -> bytes:
     return "".join(line + "\n" for line in told).encode("utf-8", "surrogateescape")
 
 
-def asm(text: bytes) -> Ended:
-    return (b"", 6, None) if len(text) > script.MOST else (assembly.assemble(text), 0, None)
-
-
 def dis(data: bytes) -> Ended:
     told = []
     try:
@@ -149,7 +141,9 @@ def dis(data: bytes) -> Ended:
     return in_lines(told), 0, None
 
 
-ON_TEXTS: dict[str, Callable[[bytes], Ended]] = {"script": script.ended, "asm": asm, "dis": dis}
+ON_TEXTS: dict[str, Callable[[bytes], Ended]] = {
+    "script": script.ended, "dis": dis,
+    "asm": lambda text: (b"", 6, None) if len(text) > script.MOST else (assembly.assemble(text), 0, None)}
 
 
 def on_image(command: OnImage, data: bytes, *words: Any, children: int = 0) -> Ended:

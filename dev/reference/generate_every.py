@@ -11,7 +11,7 @@ in five leave out words, most of them of the child's pages."""
 
 import random
 
-from common.machine import against, assembly, every, image, script
+from common.machine import against, assembly, image, runs, script
 from .generate_programs import CHILDREN, CODE, Text, joined, spoilt_image
 from common.machine.image import Image
 from common.machine.model import HANDLERS, PAGE, ROOT, SAVED
@@ -130,15 +130,15 @@ def labels(rng: random.Random, data: bytes, lines: list[bytes]) -> list[bytes]:
         deeds = against.menu_of(b"\n".join(lines)).deeds
     except (image.BadImage, script.BadLine):
         return []
-    moments = against.MenuMoments(machine, 0, every.begun(machine, every.AT_FIRST), deeds)
+    moments = against.Moments(machine, 0, runs.steps(machine, *runs.AT_FIRST), deeds)
     known = [*(f"{cpu} {text}" for cpu, text in shown(rng, moments)), "0 out 0x00000001", "out"]
     count = rng.choice((1, 1, 2, 3, 5, against.MOST_LABELS, against.MOST_LABELS + 1) if rng.random() < 0.1 else (1, 2))
     return [rng.choice((b"again ", b"comes ")) + rng.choice(known).encode() for _ in range(count)]
 
 
-def shown(rng: random.Random, moments: every.Moments) -> dict[every.Label, None]:
+def shown(rng: random.Random, moments: against.Moments) -> dict[against.Label, None]:
     """What is shown by choices in a row, of which more are turns."""
-    at, found = moments.start, dict[every.Label, None]()
+    at, found = moments.start, dict[against.Label, None]()
     for _ in range(SHORT):
         choices = moments.choices if rng.random() < 0.3 else range(moments.cpus)
         at, label = moments.after(at, rng.choice(choices))

@@ -92,16 +92,9 @@ def part_case(seed: int) -> tuple[list[str], bytes]:
     if chance.random() < 0.3:
         return words, data + wrong_text(chance, machine.frames, choices, part)
     if places and chance.random() < 0.1:
-        return words, data + parts.written(booted_word(chance, machine, part))
+        at = chance.randrange(len(places))                       # of a word that is the booted one
+        part.base[at] = (*places[at], parts.booted_word(machine, *places[at]))
     return words, data + parts.written(part)
-
-
-def booted_word(chance: random.Random, machine: image.Image, part: Part) -> Part:
-    """A part with a word of its base that is the booted one."""
-    at = chance.randrange(len(part.base))
-    frame, index, _ = part.base[at]
-    return part._replace(base=[*part.base[:at], (frame, index, parts.booted_word(machine, frame, index)),
-                               *part.base[at + 1:]])
 
 
 def wrong_text(chance: random.Random, frames: int, choices: int, part: Part) -> bytes:

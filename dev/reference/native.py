@@ -132,14 +132,6 @@ MOST_SLOTS = 64          # in a round that is given
 Round = Sequence[tuple[int, int]]    # of each slot its child, counted from 0, and its turns
 
 
-def in_turn(n: int, turns: int) -> Round:
-    return [(child, turns) for child in range(n)]
-
-
-def steps_of(round: Round, rounds: int) -> int:
-    return rounds * sum(turns + 2 for _, turns in round)
-
-
 def slot(world: World, told: list[str], first: int, child: int, turns: int) -> None:
     """From a step on the root yields into the child, the processor has its turns, and line 0 ends the slot."""
     told.append(f"{first} 0 call 8 {outcome_text(call(world, 0, 8, child, SAVED, NOWHERE))}")

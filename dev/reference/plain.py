@@ -8,7 +8,7 @@ import shutil
 import subprocess
 from collections.abc import Sequence
 
-from common.calling import REPOSITORY, Failed
+from common.calling import REPOSITORY, ensure, there
 
 SOURCES = os.path.join(REPOSITORY, "dev", "bench", "plain", "Cargo.toml")
 BUILT = os.path.join(REPOSITORY, "out", "plain")
@@ -18,12 +18,10 @@ SECONDS = 300            # one that takes longer has no answer
 @functools.lru_cache(maxsize=None)
 def program() -> str:
     """The path of the plain program, which cargo builds."""
-    cargo = shutil.which("cargo")
-    if cargo is None:
-        raise Failed("cargo is needed: it builds the plain program, which answers searches and certificates")
+    cargo = there(shutil.which("cargo"), "cargo is needed: it builds the plain program, which answers searches and "
+                  "certificates")
     done = subprocess.run([cargo, "build", "--release", "--quiet", "--manifest-path", SOURCES, "--target-dir", BUILT])
-    if done.returncode:
-        raise Failed("cargo doesn't build the plain program")
+    ensure(not done.returncode, "cargo doesn't build the plain program")
     return os.path.join(BUILT, "release", "pip-plain")
 
 

@@ -10,7 +10,7 @@ import time
 from dataclasses import asdict, dataclass
 from typing import IO
 
-from common.calling import Failed
+from common.calling import Failed, ensure
 from . import repository
 from .repository import Checkout
 
@@ -43,8 +43,7 @@ def run(found: Checkout, no_page: bool = False) -> int:
     with open(found.record.with_suffix(".log"), "wb") as log:
         status, lines = shown(found, log, ["--all", *(["--but", *OF_PAGE] if no_page else [])])
     found.need_clean()
-    if found.tree() != tree:
-        raise Failed("another commit was checked out while the gate ran: that run counts for nothing")
+    ensure(found.tree() == tree, "another commit was checked out while the gate ran: that run counts for nothing")
     told = Record(commit, tree, repository.kit(), begun, now(), status, closing(lines), found.sums())
     found.record.write_text(json.dumps(asdict(told), indent=1) + "\n", encoding="utf-8")
     return status
@@ -76,8 +75,7 @@ def now() -> str:
 def passed(found: Checkout) -> Record:
     """The record of a gate that passed on what is checked out and built the programs, or a reason to refuse."""
     record = read(found)
-    if record.tree != found.tree():
-        raise Failed(f"the gate ran on commit {record.commit[:12]}, which has other files: {RUN_IT}")
+    ensure(record.tree == found.tree(), f"the gate ran on commit {record.commit[:12]}, which has other files: {RUN_IT}")
     if record.status:
         raise Failed(f"the gate ended with status {record.status}: "
                      f"{record.closing[-1] if record.closing else 'it said nothing'}")

@@ -5,7 +5,7 @@ from __future__ import annotations
 from pathlib import Path
 
 from common.blocks import blocks
-from common.calling import Failed
+from common.calling import ensure
 from . import repository
 from .gate import Record
 from .repository import Checkout
@@ -34,6 +34,5 @@ def trusted(found: Checkout) -> str:
     """The section of docs/PROVED.md that says so."""
     path = found.place / "docs" / "PROVED.md"
     parts = path.read_text(encoding="utf-8").split("\n## Trusted\n")
-    if len(parts) != 2:
-        raise Failed(f"{path} has no section 'Trusted'")
+    ensure(len(parts) == 2, f"{path} has no section 'Trusted'")
     return parts[1].split("\n## ")[0].strip()

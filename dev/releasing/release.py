@@ -12,7 +12,7 @@ from pathlib import Path
 
 from common import calling
 from common.blocks import blocks
-from common.calling import Failed
+from common.calling import Failed, ensure
 from debugger.building import SEARCHES, STATES
 from exporter import building
 from judge.building import JUDGE
@@ -57,8 +57,7 @@ def main() -> None:
 
 def work(given: argparse.Namespace, found: Checkout) -> int:
     if given.gate:
-        if given.version:
-            raise Failed("--gate needs no version: it runs the gate, and a release comes after it")
+        ensure(not given.version, "--gate needs no version: it runs the gate, and a release comes after it")
         return gate.run(found, given.no_page)
     if not given.version or not VERSION.fullmatch(given.version):
         raise Failed(f"a version is numbers with points between them, as 1.2, and not {given.version!r}"
@@ -72,9 +71,8 @@ def work(given: argparse.Namespace, found: Checkout) -> int:
 def place_of(given: argparse.Namespace, found: Checkout) -> Path:
     """Where a release goes: never into the checkout, where the gate would refuse its sources."""
     to: Path = given.to or found.place.parent / BESIDE
-    if found.place.resolve() in (to.resolve(), *to.resolve().parents):
-        raise Failed(f"{to} is inside the checkout, where the next gate would refuse the sources of a release: choose "
-                     "a folder outside it")
+    ensure(found.place.resolve() not in (to.resolve(), *to.resolve().parents), f"{to} is inside the checkout, where "
+           "the next gate would refuse the sources of a release: choose a folder outside it")
     return to
 
 
@@ -84,8 +82,7 @@ def made(given: argparse.Namespace, found: Checkout, to: Path) -> Path:
     folder, tarball = to / name, to / f"{name}.tar.gz"
     package = to / f"{name.replace('pip-', f'{PACKAGE}_', 1)}.deb"
     for path in (folder, tarball, package):
-        if path.exists():
-            raise Failed(f"{path} is there already: a version is made once")
+        ensure(not path.exists(), f"{path} is there already: a version is made once")
     found.need_clean()
     if given.unproved:
         found.need_unproved()
@@ -136,8 +133,7 @@ def make_site(given: argparse.Namespace, found: Checkout, path: Path) -> Path | 
     parts = {"--module": given.module, "--debian": None if given.module else given.debian}
     words = [word for option, path in parts.items() if path for word in (option, str(path.resolve()))]
     run("the site", found, "class/site", "--to", str(path), *words)
-    if not (path / "index.html").is_file():
-        raise Failed("the site isn't there: class/site made no index.html")
+    ensure((path / "index.html").is_file(), "the site isn't there: class/site made no index.html")
     return path
 
 

@@ -57,7 +57,9 @@ class Releases(unittest.TestCase):
         whole.parent.mkdir(parents=True, exist_ok=True)
         whole.write_text(text)
 
-    def commit(self) -> None:
+    def commit(self, *files: tuple[str, str]) -> None:
+        for path, text in files:
+            self.write(path, text)
         self.found.git("add", "-A")
         when = {"GIT_AUTHOR_DATE": "2026-01-01T00:00:00Z", "GIT_COMMITTER_DATE": "2026-01-01T00:00:00Z"}
         subprocess.run(["git", "-c", "user.name=a", "-c", "user.email=a@b", "commit", "-qm", "all"], check=True,
@@ -65,11 +67,11 @@ class Releases(unittest.TestCase):
 
     def gate_of(self, path: str, text: str) -> None:
         """The gate of a commit in which a file is another."""
-        self.write(path, text)
-        self.commit()
+        self.commit((path, text))
         self.pass_gate()
 
-    def pass_gate(self) -> int:
+    def pass_gate(self, kit: str | None = KIT) -> int:
+        self.use_kit(kit)
         with contextlib.redirect_stdout(io.TextIOWrapper(io.BytesIO())):
             return gate.run(self.found)
 
@@ -166,16 +168,6 @@ class Releases(unittest.TestCase):
             self.made()
 
 
-def other_files(test: Releases) -> None:
-    test.write("README.md", "# Another\n")
-    test.commit()
-
-
-def no_kit(test: Releases) -> None:
-    test.use_kit(None)
-    test.pass_gate()
-
-
 # Why a release is refused after this has come to a checkout whose gate has passed
 FAULTS: dict[str, Callable[[Releases], object]] = {
     "isn't clean: README.md": lambda test: test.write("README.md", "# Another\n"),
@@ -188,8 +180,8 @@ FAULTS: dict[str, Callable[[Releases], object]] = {
     "there is no program at .*/crates/pip_lab/":
         lambda test: (test.found.place / "crates/pip_lab/out/pip_lab").unlink(),
     "with the kit kit-1, and kit-2 is here": lambda test: test.use_kit("kit-2"),
-    "with the kit None": no_kit,
-    "has other files": other_files,
+    "with the kit None": lambda test: test.pass_gate(kit=None),
+    "has other files": lambda test: test.commit(("README.md", "# Another\n")),
     "ended with status 1: check: 2 of 2": lambda test: test.gate_of(".ci/run", GATE.format(more="", status=1)),
     "the site can't be made: no compiler":
         lambda test: test.gate_of("class/site", "import sys\nsys.exit('no compiler')\n"),

@@ -22,7 +22,7 @@ from dataclasses import dataclass, field
 from typing import NamedTuple
 
 from common import calling
-from common.calling import Failed
+from common.calling import Failed, ensure
 from common.machine import against, assembly, instructions
 from debugger.rules import Rule, rule_of
 from . import why
@@ -89,6 +89,10 @@ class Word(str):
     def wrong(self, why: str) -> Wrong:
         return Wrong(self.place, why, self.column)
 
+    def ensure(self, good: object, why: str) -> None:
+        if not good:
+            raise self.wrong(why)
+
 
 class Line(str):
     """A line of the assembly text, and the columns from which its words come."""
@@ -148,21 +152,18 @@ class Files:
     def inner(self, path: Word) -> str:
         """The file that a line includes."""
         inner = os.path.join(os.path.dirname(path.place.file) if path.place.file != "-" else "", path)
-        if not os.path.isfile(inner):
-            raise path.wrong(f"there is no file {inner}")
+        path.ensure(os.path.isfile(inner), f"there is no file {inner}")
         return inner
 
     def contents(self, path: str) -> bytes:
         self.count += 1
-        if self.count > MOST_FILES:
-            raise Failed(f"{path}: more than {MOST_FILES} files are included")
+        ensure(self.count <= MOST_FILES, f"{path}: more than {MOST_FILES} files are included")
         return self.held[path] if path in self.held else calling.contents(path)
 
 
 def lines_of(path: str, files: Files, above: tuple[str, ...] = ()) -> Iterator[tuple[Place, list[Word]]]:
     """The lines of a file and of those that it includes, without remarks: a place and its words each."""
-    if len(above) > DEEPEST:
-        raise Failed(f"{path}: files are included more than {DEEPEST} deep")
+    ensure(len(above) <= DEEPEST, f"{path}: files are included more than {DEEPEST} deep")
     data = files.contents(path)
     if data and (what := why.no_text(path, data)):
         raise Failed(what)
@@ -173,8 +174,7 @@ def lines_of(path: str, files: Files, above: tuple[str, ...] = ()) -> Iterator[t
         if words[:1] != [".include"]:
             yield place, words
             continue
-        if len(words) != 2:
-            raise words[0].wrong(".include has one path, without spaces")
+        words[0].ensure(len(words) == 2, ".include has one path, without spaces")
         inner = files.inner(words[1])
         if os.path.realpath(inner) in [os.path.realpath(file) for file in (*above, path)]:
             raise words[1].wrong(f"{inner} includes itself")
@@ -267,21 +267,19 @@ class Text:
                      is_code=first != ".word")
 
     def take_constant(self, words: list[Word]) -> None:
-        if len(words) != 3 or not NAME.fullmatch(words[1]) or REGISTER.fullmatch(words[1]):
-            raise second(words).wrong(".equ has a name and a number, and no register is a name here")
+        second(words).ensure(len(words) == 3 and NAME.fullmatch(words[1]) and not REGISTER.fullmatch(words[1]),
+                             ".equ has a name and a number, and no register is a name here")
         _, name, value = words
         self.new_name(name)
         self.constants[name] = 0                            # lest each line that uses it be told, too
         self.constants[name] = self.number(value)
 
     def new_name(self, name: Word) -> None:
-        if name in self.constants or name in self.labels:
-            raise name.wrong(f"{name} has a meaning already")
+        name.ensure(name not in self.constants and name not in self.labels, f"{name} has a meaning already")
 
     def take_page(self, words: list[Word]) -> None:
-        if len(words) not in (2, 4) or words[2:3] not in ([], ["at"]):
-            raise second(words).wrong(".page has an address, and after it 'at' and the address at which a child has "
-                                      "the page")
+        second(words).ensure(len(words) in (2, 4) and words[2:3] in ([], ["at"]), ".page has an address, and after it "
+                             "'at' and the address at which a child has the page")
         address, seen = (self.page_number(word) for word in (words[1], words[-1]))
         if any(page.address == address for page in self.pages):
             raise words[1].wrong(f"the page at 0x{address:08x} was defined before")
@@ -294,8 +292,7 @@ class Text:
         return number
 
     def take_zeros(self, words: list[Word]) -> None:
-        if len(words) != 2:
-            raise words[0].wrong(".zero has one operand")
+        words[0].ensure(len(words) == 2, ".zero has one operand")
         size = self.number(words[1])
         if not 0 <= size <= WORDS:
             raise words[1].wrong(".zero has a number from 0 to 1024")
@@ -313,8 +310,7 @@ class Text:
 
     def take_handler(self, words: list[Word]) -> None:
         """`.handler K BLOCK [LABEL [rN=X ..]]`: the entry of vector K, and what stands in its block."""
-        if len(words) < 3:
-            raise second(words).wrong(".handler has a vector, a block, and where it begins")
+        second(words).ensure(len(words) >= 3, ".handler has a vector, a block, and where it begins")
         page, vector, block, place = self.pages[-1], self.number(words[1]), words[2], words[0].place
         if not 0 <= vector < 256:
             raise words[1].wrong("a vector is below 256")
@@ -340,8 +336,7 @@ class Text:
         found = [(0, words[0])] if words else []
         for word in words[1:]:
             register, equals, value = word.partition("=")
-            if not REGISTER.fullmatch(register) or not equals or not value:
-                raise word.wrong(f"{word!r} isn't rN=X")
+            word.ensure(REGISTER.fullmatch(register) and equals and value, f"{word!r} isn't rN=X")
             found.append((1 + int(register[1:]), word.put(value, len(register) + 1)))
         return found
 
@@ -405,29 +400,24 @@ class Text:
         if to is None:
             raise word.wrong(f"no line defines the name {word}")
         number = (to.address - (at + 4) % (1 << 32)) // 4
-        if not -32768 <= number <= 32767:
-            raise word.wrong(f"{word} is {number} words away: a branch reaches from -32768 to 32767")
+        word.ensure(-32768 <= number <= 32767, f"{word} is {number} words away: a branch reaches from -32768 to 32767")
         return word.put(str(number)) if elsewhere or to.page.is_elsewhere else word
 
     def number(self, word: Word, with_labels: bool = False) -> int:
         """The value of a sum of products of numbers and names."""
         value, parts = 0, list(SUMMAND.finditer(word))
-        if len(parts) > MOST_PARTS:
-            raise word.wrong(f"{word!r} is no number")
+        word.ensure(len(parts) <= MOST_PARTS, f"{word!r} is no number")
         for part in parts:
             summand = self.product(word.put(part[2], part.start(2)), with_labels)
             value += -summand if part[1] == "-" else summand
-        if abs(value) >= MOST_NUMBER:
-            raise word.wrong(f"{word!r} has more than 32 bits")
+        word.ensure(abs(value) < MOST_NUMBER, f"{word!r} has more than 32 bits")
         return value
 
     def product(self, text: Word, with_labels: bool) -> int:
         value, terms = 1, text.split("*")
-        if len(terms) > 8:
-            raise text.wrong("a product has at most eight factors")
+        text.ensure(len(terms) <= 8, "a product has at most eight factors")
         for term in terms:
-            if not TERM.fullmatch(term):
-                raise text.wrong(f"{text!r} is no number and no name")
+            text.ensure(TERM.fullmatch(term), f"{text!r} is no number and no name")
             if NUMBER.fullmatch(term):
                 value *= int(term, 0)
             elif term in self.constants:
@@ -439,8 +429,7 @@ class Text:
             else:
                 raise text.wrong(f"no line defines the name {term}" if NAME.fullmatch(term)
                                  else f"{term!r} is no number")
-            if abs(value) >= MOST_NUMBER:
-                raise text.wrong(f"{text!r} has more than 32 bits")
+            text.ensure(abs(value) < MOST_NUMBER, f"{text!r} has more than 32 bits")
         return value
 
     def of_menu(self, words: list[Word]) -> Line:
@@ -450,8 +439,7 @@ class Text:
             if len(words) < 2:
                 raise words[0].wrong(f"{words[0]} has a line without its step, as 0 out 0x00000005")
             return Line.of([words[0].put(words[0][1:]), *words[1:]])
-        if len(words) < 3:
-            raise words[0].wrong(f".may has 'each' or a partition's name, and a deed: {', '.join(DEEDS)}")
+        words[0].ensure(len(words) >= 3, f".may has 'each' or a partition's name, and a deed: {', '.join(DEEDS)}")
         who, what, *numbers = words[1:]
         return Line.of([who if who == against.EACH.decode() else self.word_text(who), what,
                         *map(self.word_text, numbers)])
@@ -531,8 +519,7 @@ def processed(path: str, files: Files | None = None) -> tuple[Lines, Text]:
             with collecting(wrongs):
                 if words:
                     text.take(words)
-            if count > MOST_LINES:
-                raise Failed(f"{path} has more than {MOST_LINES} lines, with what it includes")
+            ensure(count <= MOST_LINES, f"{path} has more than {MOST_LINES} lines, with what it includes")
     lines = text.written(wrongs)
     wrongs += [Wrong(place, "the line has more than 120 bytes") for place, line in lines if len(line.encode()) > 120]
     told = {wrong.place for wrong in wrongs}
@@ -588,12 +575,10 @@ def text_of(lines: Lines) -> bytes:
 def image_of(program: str, path: str) -> tuple[bytes, str | None]:
     """The image of a file, and its path where it is a source."""
     data = calling.contents(path, MOST_IMAGE)
-    if not data:
-        raise Failed(f"{path} is empty")
+    ensure(data, f"{path} is empty")
     if data.startswith(IMAGE):
         return data, None
-    if path == "-":
-        raise Failed("a source is given by its name, since it may include others")
+    ensure(path != "-", "a source is given by its name, since it may include others")
     lines, text = processed(path)
     warn(text)
     return assembled(program, lines), path

@@ -21,11 +21,11 @@ import sys
 from typing import NamedTuple
 
 from common import calling, meanings
-from common.calling import Failed
-from common.machine import against, every as searches, image as images, script
-from common.machine.every import AT_FIRST, After
+from common.calling import Failed, ensure
+from common.machine import against, image as images, runs, script
 from common.machine.image import Image
 from common.machine.model import World
+from common.machine.runs import AT_FIRST, After
 from debugger import building, client, rules, searching, sources
 from debugger.searching import AGAIN, END, Asked, Line, Search
 from . import asmx, every_program, trace, ways, why
@@ -121,7 +121,7 @@ def way_of(given: Given, line: Line) -> tuple[Image, Way]:
 def replayed(given: Given, line: Line, is_shown: bool = False) -> tuple[World, list[str]]:
     """The world after a way, and the lines of its last choice; the choices are printed if they are to be shown."""
     image, way = way_of(given, line)
-    world, lines = searches.begun(image, given.asked.after), list[str]()
+    world, lines = runs.steps(image, *given.asked.after), list[str]()
     for made in ways.made(image, way, given.menu, given.asked.after):
         world, lines = made.world, made.lines
         if is_shown:
@@ -219,8 +219,7 @@ def main() -> None:
 
 def given_of(given: argparse.Namespace) -> Given:
     data, source = asmx.image_of(given.program, given.file)
-    if source and given.source:
-        raise Failed("--source is for an image, and this is a source")
+    ensure(not source or not given.source, "--source is for an image, and this is a source")
     source = source or given.source
     try:
         _, menu = images.parted(data)
@@ -253,8 +252,7 @@ def after_of(words: list[str] | None, data: bytes, source: str | None) -> After:
     if not words:
         return AT_FIRST
     seed = calling.number(words[1] if words[1:] else "1", 1, script.WORD - 1, "SEED")
-    if len(words) > 2:
-        raise Failed("--after has STEPS SEED, or NAME and a seed")
+    ensure(len(words) <= 2, "--after has STEPS SEED, or NAME and a seed")
     if not asmx.NAME.fullmatch(words[0]):
         return After(calling.number(words[0], 0, MOST, "STEPS"), seed)
     steps = client.first_turn_at(building.STATES.path(), data, sources.read(data, source).named(words[0]).word, seed)
@@ -263,8 +261,7 @@ def after_of(words: list[str] | None, data: bytes, source: str | None) -> After:
 
 
 def work(given: argparse.Namespace) -> int | None:
-    if given.states is None and not (given.any or given.report):
-        raise Failed("STATES is missing")
+    ensure(given.states is not None or given.any or given.report, "STATES is missing")
     given.states = given.states or every_program.STATES
     asked = given_of(given)
     if given.any or given.report:
@@ -282,7 +279,6 @@ def work(given: argparse.Namespace) -> int | None:
         is_found = searching.is_found(search)
         status = confirmed(given.program, asked, search.lines[-1], search) if is_found else search.status
         return 1 if is_found and search.lines[-1].cpu == "-" else status
-    if not search.lines:
-        raise Failed("no line can come")
+    ensure(search.lines, "no line can come")
     line = search.lines[calling.number(number, 1, len(search.lines), "N") - 1]
     return traced(given.program, asked, line, search) if given.trace else scripted(given.program, asked, line)

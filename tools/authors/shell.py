@@ -9,7 +9,7 @@ import io
 import sys
 
 from common import calling, meanings
-from common.calling import Failed, text_of
+from common.calling import Failed, ensure, text_of
 from common.draw import texts
 from common.machine import script
 from step import states, walk
@@ -102,8 +102,7 @@ class Session:
         return [f"{len(self.kept)} lines are in {path}"]
 
     def looked(self) -> walk.Looker:
-        if not self.asked.lines:
-            raise Failed("there is no machine yet: boot 64 1 begins one")
+        ensure(self.asked.lines, "there is no machine yet: boot 64 1 begins one")
         return walk.Looker(self.asked.words)
 
     def on_tree(self, _: str) -> list[str]:

@@ -8,7 +8,7 @@ import unittest
 
 from common import calling
 from common.calling import Failed
-from common.machine import against, assembly, every as searches, image as images, script
+from common.machine import against, assembly, image as images, runs, script
 from reference import generate_every
 from common.machine.image import Image
 from debugger import searching, sources
@@ -36,17 +36,18 @@ class Ways(unittest.TestCase):
         for seed in (2, 4, 5, 13, 14, 21, 32):
             _, data = generate_every.case(seed)
             image, rng = images.read(data), random.Random(seed)
-            moments = searches.Moments(image, 0, searches.begun(image, searches.AT_FIRST))
+            moments = against.Moments(image, 0, runs.steps(image, *runs.AT_FIRST))
             choices = [rng.choice(moments.choices) for _ in range(rng.randrange(1, 60))]
             at, label = moments.start, None
             for choice in choices:
                 at, label = moments.after(at, choice)
-            way = ways.read(image, searches.grouped(map(moments.choice_text, choices)))
+            way = ways.read(image, " ".join(map(moments.choice_text, choices)))
+            self.assertEqual(ways.read(image, ways.text_of(way)), way)
             due = [f"{len(way) - 1} {label[0]} {label[1]}"] if label else []
             self.assertEqual(list(ways.made(image, way))[-1].lines, due)
             self.is_script(image, way)
 
-    def is_script(self, image: Image, way: ways.Way, after: searches.After = searches.AT_FIRST) -> None:
+    def is_script(self, image: Image, way: ways.Way, after: runs.After = runs.AT_FIRST) -> None:
         text, answers = ways.script(image, way, (), after)
         told, status = script.run(text.encode())
         self.assertEqual((told.decode().splitlines(), status), (answers, 0))

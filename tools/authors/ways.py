@@ -5,17 +5,18 @@ They are made again by dev/reference, of which nothing is proved.
 
 from __future__ import annotations
 
+import itertools
 import re
 from collections.abc import Callable, Iterator, Sequence
 from typing import NamedTuple
 
-from common.calling import Failed
-from common.machine import against, every as searches, image as images, runs, script as scripts
+from common.calling import Failed, ensure
+from common.machine import against, image as images, runs, script as scripts
 from common.machine.against import Deed
-from common.machine.every import AT_FIRST, After
 from common.machine.image import Image
 from common.machine.model import (LOAD, NOWHERE, PAGE, ROOT, SAVED, Context, Outcome, Parked, Place, Switched, Tree,
                                   World)
+from common.machine.runs import AT_FIRST, After
 from common.machine.script import outcome_text, word_text
 from . import trace
 
@@ -61,8 +62,7 @@ def choice_of(image: Image, word: str, menu: Menu) -> Choice:
     number, _, deed = word.removeprefix("raise").partition(":d")
     if word.startswith("raise"):
         return Choice(int(number), True)
-    if int(number) >= image.cpus or int(deed or "0") > len(menu):
-        raise Failed(f"{word!r} is no choice of this image")
+    ensure(int(number) < image.cpus and int(deed or "0") <= len(menu), f"{word!r} is no choice of this image")
     return Choice(int(number), False, menu[int(deed) - 1] if deed else None)
 
 
@@ -85,8 +85,10 @@ def is_idle(world: World, cpu: int) -> bool:
 
 
 def text_of(way: Way) -> str:
-    """The text of a way without deeds."""
-    return searches.grouped(f"raise{choice.number}" if choice.raises else str(choice.number) for choice in way)
+    """The text of a way without deeds: choices that are the same in a row as one, with their number."""
+    names = (f"raise{choice.number}" if choice.raises else str(choice.number) for choice in way)
+    grouped = ((name, len(list(same))) for name, same in itertools.groupby(names))
+    return " ".join(name if count == 1 else f"{name}x{count}" for name, count in grouped)
 
 
 class Waiting(trace.Watched, against.Hostile):
@@ -118,7 +120,7 @@ class Made(NamedTuple):
 
 
 def made(image: Image, way: Way, menu: Menu = (), after: After = AT_FIRST) -> Iterator[Made]:
-    world = searches.begun(image, after)
+    world = runs.steps(image, *after)
     for step, choice in enumerate(way):
         lines: list[str] = []
         turn = None
@@ -289,5 +291,5 @@ def ends_as_the_way(world: Told) -> None:
         word = "masked" if root.masked else "unmasked"
         world.remark(f"no line can say this here: the root is {word}, word 14 of frame 1")
         other.nodes[ROOT].masked = root.masked
-    if runs.core_lines(world.tree) != runs.core_lines(other):
-        raise Failed("the frames after the script aren't those after the way")
+    ensure(runs.core_lines(world.tree) == runs.core_lines(other), "the frames after the script aren't those after the "
+           "way")

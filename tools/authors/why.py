@@ -8,7 +8,7 @@ from collections.abc import Callable, Iterator
 from typing import NamedTuple, NoReturn, Optional
 
 from common import calling, meanings
-from common.calling import Failed
+from common.calling import Failed, ensure
 from common.machine import against, assembly, instructions, script
 
 NUMBER = re.compile(rb"0|[1-9][0-9]*|0x[0-9a-f]{1,8}")
@@ -189,7 +189,8 @@ def unknown(word: bytes) -> Cause:
     name = word.decode("utf-8", "replace")
     if name.lower() in instructions.OPCODES and name not in instructions.OPCODES:
         return in_upper_case(1, word)
-    if name in instructions.OPCODES or word in (b".word", b".zero") or is_label(word):
+    is_label = word.endswith(b":") and assembly.NAME.fullmatch(word[:-1])
+    if name in instructions.OPCODES or word in (b".word", b".zero") or is_label:
         return Cause("asm place", 1, f"{shown(word)} stands in a page, and no .page is above it")
     if word in DIRECTIVES:
         return Cause("asm place", 1, f"{shown(word)} doesn't stand here")
@@ -201,10 +202,6 @@ def unknown(word: bytes) -> Cause:
                      f"`{name}` is of a source of `tools/asmx`, which writes an assembly text")
     names = [known.decode() for known in DIRECTIVES] if word.startswith(b".") else list(instructions.OPCODES)
     return Cause("asm unknown", 1, no_instruction(name, names, LIKE))
-
-
-def is_label(word: bytes) -> bool:
-    return word.endswith(b":") and assembly.NAME.fullmatch(word[:-1]) is not None
 
 
 def no_instruction(word: str, names: list[str], like: dict[str, str]) -> str:
@@ -318,8 +315,7 @@ def by_program(program: str, kind: Kind) -> Judge:
     def judge(text: bytes) -> tuple[int, str] | None:
         output, status = calling.output(program, ["asm" if kind is ASSEMBLY else "script"], text)
         found = re.search(rb"bad line (\d+)(?: (\w+))?\n$", output)
-        if status and found is None:
-            raise Failed("the program refuses the text, and names no line")
+        ensure(not status or found is not None, "the program refuses the text, and names no line")
         return (int(found[1]), (found[2] or b"").decode()) if status and found else None
     return judge
 
@@ -331,15 +327,12 @@ def bad_lines(kind: Kind, judge: Judge, lines: list[bytes], most: int = MOST_TOL
         place, fault = found
         cause = cause_of(kind, lines, place, fault)
         yield place, fault, cause
-        if place > len(lines) or cause.name in ("second", "menu many", "asm place") or is_head(lines[place - 1]):
+        line = b"".join(lines[place - 1:place])
+        is_head = line.startswith((b"boot", b".")) and not line.startswith(b".word")      # all after it would be wrong
+        if place > len(lines) or is_head or cause.name in ("second", "menu many", "asm place"):
             return
         lines[place - 1] = kind.good
         most -= 1
-
-
-def is_head(line: bytes) -> bool:
-    """A line without which all after it would be wrong."""
-    return line.startswith((b"boot", b".")) and not line.startswith(b".word")
 
 
 def cause_of(kind: Kind, lines: list[bytes], place: int, fault: str) -> Cause:
@@ -383,7 +376,7 @@ def sentences(kind: Kind, judge: Judge, name: str, text: bytes) -> Iterator[list
 
 
 def told(name: str, place: int, lines: list[bytes], cause: Cause) -> list[str]:
-    row = meanings.causes()[cause.name]
+    row = meanings.CAUSES[cause.name]
     line = lines[place - 1].decode("utf-8", "replace") if place <= len(lines) else ""
     sentences = [f"{name}:{place}:{cause.column}: {cause.here}"]
     if line.isprintable() and line and cause.column <= 121:

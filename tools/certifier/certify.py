@@ -23,7 +23,7 @@ from pathlib import Path
 
 from authors import asmx
 from common import calling
-from common.calling import Failed
+from common.calling import Failed, ensure
 from common.machine import image as images
 from debugger.building import SEARCHES
 
@@ -59,8 +59,7 @@ def main() -> None:
 def certify(given: argparse.Namespace) -> int:
     data, _ = asmx.image_of(given.program, given.file)
     with contextlib.suppress(images.BadImage):               # the search says what is bad
-        if images.parted(data)[1]:
-            raise Failed("there is a menu after the image, and a certificate is of the image alone")
+        ensure(not images.parted(data)[1], "there is a menu after the image, and a certificate is of the image alone")
     folder: Path = given.to or Path(given.file).with_suffix(".parts")
     folder.mkdir(parents=True, exist_ok=True)
     program = calling.lab(given.program)
@@ -121,19 +120,16 @@ def cut(given: argparse.Namespace, data: bytes, folder: Path) -> list[Path]:
         words = [str(each) for each in (given.first, given.size, given.states, given.workers, folder)]
         done = subprocess.run([SEARCHES.path(), "cut", *words], input=data, stdout=subprocess.PIPE, check=False)
         said = done.stdout.decode().strip()
-        if said.startswith("stopped "):
-            raise Failed(f"there are more than {given.states} states: give more --states")
-        if done.returncode in NO_MEMORY:
-            raise Failed(f"the search had no memory: it takes about {SEARCH_BYTES} bytes a state")
-        if done.returncode:
-            raise Failed(f"the search ended with status {done.returncode}: {said}")
+        ensure(not said.startswith("stopped "), f"there are more than {given.states} states: give more --states")
+        ensure(done.returncode not in NO_MEMORY, f"the search had no memory: it takes about {SEARCH_BYTES} bytes a "
+               "state")
+        ensure(not done.returncode, f"the search ended with status {done.returncode}: {said}")
         (folder / "image").write_bytes(data)
         (folder / "from").write_text(f"{given.first}\n", encoding="utf-8")
         told.write_text(f"{whose}\n{said}\n", encoding="utf-8")
         say(f"{said}, in {time.monotonic() - begun:.1f} s")
     before, cut_into = told.read_text(encoding="utf-8").split("\n", 1)
-    if before != whose:
-        raise Failed(f"{folder} has parts of another image, or of another --from or --size: take it away")
+    ensure(before == whose, f"{folder} has parts of another image, or of another --from or --size: take it away")
     states = int(cut_into.split()[1])
     say(f"checks take {PART_BYTES * given.size * given.workers >> 20} MB of memory or more, "
         f"and about {3 * LINE_BYTES * states >> 20} MB of disk")
@@ -163,8 +159,7 @@ def check_one(program: str, folder: Path, part: Path, running: set[int]) -> None
         running.add(process.pid)
         _, said = process.communicate()
         running.discard(process.pid)
-    if process.returncode:
-        raise Failed(said.strip() or f"the check of {part.name} was ended")
+    ensure(not process.returncode, said.strip() or f"the check of {part.name} was ended")
 
 
 def merge(program: str, lines: Iterable[Path]) -> int:

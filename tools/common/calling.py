@@ -31,6 +31,19 @@ class Failed(Exception):
     """Why a tool can't do its work, as a sentence."""
 
 
+def ensure(good: object, why: str) -> None:
+    """Without what has to be good a tool can't do its work."""
+    if not good:
+        raise Failed(why)
+
+
+def there(found: T | None, why: str) -> T:
+    """What has to be there for a tool to do its work."""
+    if found is None:
+        raise Failed(why)
+    return found
+
+
 def take_program(parser: argparse.ArgumentParser) -> None:
     """The options --program and --unproved of a tool."""
     parser.add_argument("--program", default=os.environ.get("PIP") or PROVED, metavar="PATH",

@@ -3,15 +3,28 @@
 
 from __future__ import annotations
 
-import functools
 import json
-import os
 import re
+from pathlib import Path
 from typing import Any
 
-DATA = os.path.join(os.path.dirname(os.path.abspath(__file__)), "meanings.json")
+DATA = Path(__file__).with_name("meanings.json")
 LINES = range(32, 48)            # the vectors of the interrupt lines
 LINK = re.compile(r"\[([^\]]*)\]\([^)]*\)")
+
+
+TOLD: Any = json.loads(DATA.read_text(encoding="utf-8"))
+STATUSES: dict[int, tuple[str, str]] = {int(number): (name, told) for number, (name, told) in TOLD["statuses"].items()}
+# Of each call its name and its arguments. A number without a call isn't there
+CALLS: dict[int, tuple[str, str]] = {int(number): (name, told) for number, (name, told) in TOLD["calls"].items()}
+# What a vector comes from, if it comes from one thing alone
+VECTORS: dict[int, str] = {int(number): told for number, told in TOLD["vectors"].items()}
+# Of each cause for which a line is bad the row of its table: what the line has, why that is bad, what to do
+CAUSES: dict[str, list[str]] = TOLD["causes"]
+ENDS: dict[str, str] = TOLD["ends"]                      # when the program ends with each status
+# What each first word of a line means, of a script's and of an assembly text's, with the lines of tools/asmx
+FORMS: dict[str, str] = TOLD["forms"]
+ASSEMBLY: dict[str, str] = TOLD["assembly"]
 
 
 def plain(text: str) -> str:
@@ -19,53 +32,14 @@ def plain(text: str) -> str:
     return LINK.sub(r"\1", text)
 
 
-@functools.lru_cache(maxsize=None)
-def data() -> Any:
-    with open(DATA, encoding="utf-8") as file:
-        return json.load(file)
-
-
-def statuses() -> dict[int, tuple[str, str]]:
-    """Of each status its name and its meaning."""
-    return {int(number): (name, meaning) for number, (name, meaning) in data()["statuses"].items()}
-
-
-def calls() -> dict[int, tuple[str, str]]:
-    """Of each call its name and its arguments. A number without a call isn't there."""
-    return {int(number): (name, arguments) for number, (name, arguments) in data()["calls"].items()}
-
-
-def vectors() -> dict[int, str]:
-    """What a vector comes from, if it comes from one thing alone."""
-    return {int(number): told for number, told in data()["vectors"].items()}
-
-
-def causes() -> dict[str, list[str]]:
-    """Of each cause for which a line is bad the row of its table: what the line has, why that is bad, what to do."""
-    found: dict[str, list[str]] = data()["causes"]
-    return found
-
-
-def ends() -> dict[str, str]:
-    """When the program ends with each status."""
-    found: dict[str, str] = data()["ends"]
-    return found
-
-
-def words(kind: str) -> dict[str, str]:
-    """What each first word of a line means, of a script's (`forms`) or of an assembly text's (`assembly`)."""
-    found: dict[str, str] = data()[kind]
-    return found
-
-
 def of_status(number: int) -> str:
-    return ": ".join(statuses()[number]) if number else statuses()[0][0]
+    return ": ".join(STATUSES[number]) if number else STATUSES[0][0]
 
 
 def of_vector(vector: int) -> str:
     if vector in LINES:
         return f"vector {vector}, interrupt line {vector - 32}"
-    told = vectors().get(vector)
+    told = VECTORS.get(vector)
     return f"vector {vector}: {told}" if told and vector in (6, 14, 17) else f"vector {vector}"
 
 
@@ -80,7 +54,7 @@ def of_answer(answer: str, line: str = "") -> str:
     call, (kind, *numbers) = outcome_of(answer)
     if line.startswith("call "):
         call = line.split()[2]
-    made = calls().get(int(call, 0), (f"call {call}",))[0] + ": " if call is not None else ""
+    made = CALLS.get(int(call, 0), (f"call {call}",))[0] + ": " if call is not None else ""
     if kind == "reply":
         return made + of_status(int(numbers[0]))
     if kind == "switch":

@@ -23,7 +23,7 @@ from typing import IO, Any
 
 from authors import asmx
 from common import calling
-from common.calling import Failed
+from common.calling import Failed, ensure, there
 from common.machine.model import PAGE
 from . import building, sources, wire
 from .client import At, States, Stopped
@@ -47,6 +47,12 @@ DESCRIPTOR = ("descriptor", "MMU directory", "first shadow directory", "second s
 EXPRESSION = re.compile(r"\{([^{}]*)\}")                  # in a message, to be replaced by its value
 MOST_LINES = 50                  # trace lines that are told after a run
 MOST_LOOKED = 20_000             # steps before the end of a run of which they are told
+
+# How the processor of a thread moves, and what a client is told where nothing else stopped it
+MOVES: dict[str, tuple[Callable[[Debugger, int], Stopped], str]] = {
+    "continue": (lambda on, cpu: on.run(on.told_stops()), "pause"),
+    "reverseContinue": (lambda on, cpu: on.back(on.told_stops()), "entry"),
+    "next": (Debugger.over, "step"), "stepIn": (Debugger.turn_of, "step"), "stepBack": (Debugger.back_turn_of, "step")}
 
 Variable = dict[str, Any]
 Arguments = dict[str, Any]
@@ -125,7 +131,10 @@ class Adapter:
         command = str(message.get("command", ""))
         self.pausing -= command in PAUSING
         told = {"request_seq": message.get("seq", 0), "command": command}
-        work = getattr(self, "on_" + snake(command), None)
+        work = getattr(self, "on_" + re.sub("(?=[A-Z])", "_", command).lower(), None)
+        if command in MOVES:
+            move, reason = MOVES[command]
+            work = lambda given: self.moving(lambda: move(self.on, given.get("threadId", 1) - 1), reason)
         try:
             if work is None:
                 raise Failed((message.get("arguments") or {}).get("said", f"{command} isn't known here"))
@@ -148,9 +157,7 @@ class Adapter:
 
     @property
     def on(self) -> Logging:
-        if self.debugger is None:
-            raise Failed("nothing is launched")
-        return self.debugger
+        return there(self.debugger, "nothing is launched")
 
     # Begin and end
 
@@ -160,8 +167,7 @@ class Adapter:
 
     def on_launch(self, given: Arguments) -> Any:
         self.launched = given
-        if not given.get("program"):
-            raise Failed("launch has a program: an image, a source or a script")
+        ensure(given.get("program"), "launch has a program: an image, a source or a script")
         calling.direct(self.program)
         native, slots = given.get("native"), given.get("slots")
         schedule = schedule_of(str(given.get("seed", 1)), None if native is None else str(native),
@@ -191,9 +197,11 @@ class Adapter:
             self.on.take_way(self.launched["way"])
         return lambda: self.stopped(self.on.states.now, "entry")
 
-    def on_disconnect(self, given: Arguments) -> Any:
+    def on_pause(self, given: Arguments) -> None:
+        """What goes on has seen it already."""
+
+    def on_disconnect(self, given: Arguments) -> None:
         self.done = True
-        return None
 
     def on_terminate(self, given: Arguments) -> Any:
         return lambda: self.event("terminated")
@@ -311,18 +319,6 @@ class Adapter:
         cpu = coming.cpu if is_break or turn is None or turn.cpu is None else turn.cpu
         return (cpu or 0) + 1
 
-    def on_continue(self, given: Arguments) -> Any:
-        return self.moving(lambda: self.on.run(self.on.told_stops()), "pause")
-
-    def on_reverse_continue(self, given: Arguments) -> Any:
-        return self.moving(lambda: self.on.back(self.on.told_stops()), "entry")
-
-    def on_next(self, given: Arguments) -> Any:
-        return self.moving(lambda: self.on.over(given["threadId"] - 1))
-
-    def on_step_in(self, given: Arguments) -> Any:
-        return self.moving(lambda: self.on.turn_of(given["threadId"] - 1))
-
     def on_step_out(self, given: Arguments) -> Any:
         """On to where the parent of what runs has a turn."""
         at = self.on.states.registers()[given["threadId"] - 1]
@@ -331,12 +327,6 @@ class Adapter:
         if len(chain) > 1:
             stops.append(f"break 0 part {chain[1].name}")
         return self.moving(lambda: self.on.run(stops))
-
-    def on_step_back(self, given: Arguments) -> Any:
-        return self.moving(lambda: self.on.back_turn_of(given["threadId"] - 1))
-
-    def on_pause(self, given: Arguments) -> Any:
-        return None
 
     # What there is
 
@@ -394,8 +384,7 @@ class Adapter:
                            for name, make in scopes]}
 
     def variables(self, reference: int) -> list[Variable]:
-        if not 1 <= reference <= len(self.handles):
-            raise Failed("these variables are of an earlier state")
+        ensure(1 <= reference <= len(self.handles), "these variables are of an earlier state")
         return self.handles[reference - 1]()
 
     def on_variables(self, given: Arguments) -> Any:
@@ -464,8 +453,7 @@ class Adapter:
     def on_set_variable(self, given: Arguments) -> Any:
         """A register gets another word."""
         name = given["name"]
-        if not re.fullmatch(r"pc|r\d+", name):
-            raise Failed("registers alone can be set; store does it for words of a partition")
+        ensure(re.fullmatch(r"pc|r\d+", name), "registers alone can be set; store does it for words of a partition")
         register = 16 if name == "pc" else int(name[1:])
         value = self.on.value(given["value"])
         cpu = next((cpu for cpu, _, runs in self.frames if runs), 0)
@@ -475,7 +463,7 @@ class Adapter:
     # Expressions, memory, instructions
 
     def on_evaluate(self, given: Arguments) -> Any:
-        chosen, self.on.cpu = self.on.cpu, self.cpu_of(given)
+        chosen, self.on.cpu = self.on.cpu, self.frame_of(given)[0] if given.get("frameId") else None
         try:
             word = given["expression"].split()[0] if given["expression"].split() else ""
             if given.get("context") == "repl" and word in (*SHOWING, *CHANGING):
@@ -485,13 +473,9 @@ class Adapter:
         finally:
             self.on.cpu = chosen
 
-    def cpu_of(self, given: Arguments) -> int | None:
-        return self.frame_of(given)[0] if given.get("frameId") else None
-
     def frame_of(self, given: Arguments) -> tuple[int, int, bool]:
         number = int(given["frameId"])
-        if not 1 <= number <= len(self.frames):
-            raise Failed("this frame is of an earlier state")
+        ensure(1 <= number <= len(self.frames), "this frame is of an earlier state")
         return self.frames[number - 1]
 
     def said(self, text: str) -> str:
@@ -559,13 +543,8 @@ class Adapter:
 def limits(given: Arguments) -> tuple[str | None, int]:
     """Of a stop its condition, and the time at which it stops a run."""
     times = given.get("hitCondition") or "1"
-    if not times.strip().isdecimal():
-        raise Failed(f"a hit count is a number, the time at which it stops a run, and not {times!r}")
+    ensure(times.strip().isdecimal(), f"a hit count is a number, the time at which it stops a run, and not {times!r}")
     return given.get("condition") or None, int(times)
-
-
-def snake(name: str) -> str:
-    return re.sub(r"[A-Z]", lambda found: "_" + str(found[0]).lower(), name)
 
 
 def variable(name: str, value: str, reference: int = 0, **more: Any) -> Variable:

@@ -9,7 +9,7 @@ from collections.abc import Iterator, Sequence
 from dataclasses import dataclass
 from typing import Any, NamedTuple
 
-from common.calling import Failed, running
+from common.calling import Failed, ensure, running
 
 EVERY = 10_000                   # steps between two states that are kept
 LISTED = 10_000                  # steps that are listed at once
@@ -98,8 +98,7 @@ class States:
             line = told.readline()
         except OSError:
             line = ""
-        if not line:
-            raise Failed("the process that keeps states has ended")
+        ensure(line, "the process that keeps states has ended")
         answer = json.loads(line)
         if isinstance(answer, dict) and "error" in answer:
             raise Refused(answer["error"])
@@ -122,9 +121,12 @@ class States:
 
     # What is asked
 
-    def load(self, image: str, schedule: str = "seed 1", every: int = EVERY) -> None:
-        """Begins, by a schedule: `seed SEED`, `native CHILDREN` or `slots CHILDREN TURNS`."""
-        told = self.ask("load", schedule, every, image)
+    def load(self, data: bytes, schedule: str = "seed 1", every: int = EVERY) -> None:
+        """Begins with an image or a script, by a schedule: `seed SEED`, `native CHILDREN` or `slots CHILDREN TURNS`."""
+        with tempfile.NamedTemporaryFile(suffix=".img") as file:
+            file.write(data)
+            file.flush()
+            told = self.ask("load", schedule, every, file.name)
         self.frames, self.cpus, self.plans = told["frames"], told["cpus"], told["plans"]
         self.now = Stopped(0, [], told["end"], False)
 
@@ -194,13 +196,9 @@ def first_turn_at(process: str, image: bytes, word: tuple[int, int], seed: int) 
     """How many steps of a run come before the first turn at a word of a frame."""
     states = States(process)
     try:
-        with tempfile.NamedTemporaryFile(suffix=".img") as file:
-            file.write(image)
-            file.flush()
-            states.load(file.name, f"seed {seed}")
+        states.load(image, f"seed {seed}")
         now = states.run(states.now.end, [f"break 1 place {word[0]}:{word[1]}"])
-        if not now.stops:
-            raise Failed(f"it doesn't run in {now.step} steps by the seed {seed}")
+        ensure(now.stops, f"it doesn't run in {now.step} steps by the seed {seed}")
         return now.step
     finally:
         states.end()

@@ -4,18 +4,17 @@ from __future__ import annotations
 
 import os
 import re
-import tempfile
 from collections.abc import Callable
 from dataclasses import dataclass
 from typing import NamedTuple
 
 from authors import asmx, ways, why
 from common import calling
-from common.calling import Failed
+from common.calling import Failed, ensure, there
 from common.draw import texts
 from common.draw.texts import Partition
 from common.machine import image as images, instructions, script
-from common.machine.every import AT_FIRST, After
+from common.machine.runs import AT_FIRST, After
 from . import searching, sources
 from .client import EVERY, At, Coming, Refused, States, Stopped, Turn
 from .sources import Named, Word
@@ -74,7 +73,8 @@ class Debugger:
                  every_step: int = EVERY) -> None:
         self.program, self.states, self.path = program, process, path
         self.events: list[Event] = []                    # of a script, after its first line
-        self.is_script = path != "-" and begins_script(calling.contents(path, asmx.MOST_IMAGE))
+        data = b"" if path == "-" else calling.contents(path, asmx.MOST_IMAGE)
+        self.is_script = re.match(rb"(#[^\n]*\n|\n)*boot ", data) is not None       # its first line that isn't blank
         if self.is_script:
             self.data, self.source, schedule = calling.contents(path), sources.Source(path), "script"
             self.events = events_of(program, path, self.data)
@@ -92,10 +92,7 @@ class Debugger:
 
     def load(self, schedule: str) -> None:
         """Begins, and forgets all changes by hand."""
-        with tempfile.NamedTemporaryFile(suffix=".img") as file:
-            file.write(self.data)
-            file.flush()
-            self.states.load(file.name, schedule, self.every_step)
+        self.states.load(self.data, schedule, self.every_step)
         self.schedule, self.on_way = schedule, False
 
     # Where it is
@@ -187,18 +184,14 @@ class Debugger:
 
     def words(self, text: str, count: int) -> list[tuple[Word, int]]:
         """Words from a place on, to the end of its frame."""
-        place = self.target(text).word
-        if place is None:
-            raise Failed(f"{text}: the partition has no page there")
-        frame, index = place
+        frame, index = there(self.target(text).word, f"{text}: the partition has no page there")
         found = self.states.words(frame, index, min(count, 1024 - index))
         return [((frame, index + k), word) for k, word in enumerate(found)]
 
     # Stops
 
     def add(self, text: str, kind: str, parts: list[str], condition: str | None = None, after: int = 1) -> Stop:
-        if after < 1:
-            raise Failed("a count of times is at least 1")
+        ensure(after >= 1, "a count of times is at least 1")
         self.last_number += 1
         stop = Stop(self.last_number, text, kind, parts, condition, after)
         self.stops[stop.number] = stop
@@ -232,9 +225,8 @@ class Debugger:
 
     def condition(self, text: str) -> str:
         """A == B, with a register, [PLACE] or a number on each side, as the process takes it."""
-        found = CONDITION.fullmatch(text)
-        if not found:
-            raise Failed(f"{text!r} isn't A == B, with a register, [PLACE] or a number on each side")
+        found = there(CONDITION.fullmatch(text), f"{text!r} isn't A == B, with a register, [PLACE] or a number on each "
+                      "side")
         return f"{self.operand(found[1])} {found[2]} {self.operand(found[3])}"
 
     def operand(self, text: str) -> str:
@@ -353,8 +345,7 @@ class Debugger:
         return self.states.edit("seed", seed)
 
     def need_image(self) -> None:
-        if self.is_script:
-            raise Failed("the lines of a script come in their order alone")
+        ensure(not self.is_script, "the lines of a script come in their order alone")
 
     def search(self, words: list[str]) -> tuple[searching.Search, str]:
         """What the program's `every` finds for this image, and the way to where it begins."""
@@ -362,8 +353,7 @@ class Debugger:
         at = words.index("after") if "after" in words else len(words)
         numbers = [int(word, 0) for word in words[:at]]
         after = After(*(int(word, 0) for word in words[at + 1:])) if words[at:] else AT_FIRST
-        if not 1 <= len(numbers) <= 3:
-            raise Failed("every has STATES, and where wanted FROM and DEPTH")
+        ensure(1 <= len(numbers) <= 3, "every has STATES, and where wanted FROM and DEPTH")
         states, first, depth = (*numbers, None, None)[:3]
         found = searching.searched(self.program, searching.Asked(self.data, b"", states or 0, first, depth, after))
         return found, ways.text_of(ways.before(images.read(self.data), after)) if after.steps else ""
@@ -468,16 +458,10 @@ class Debugger:
         return told
 
 
-def begins_script(data: bytes) -> bool:
-    """Whether the first line of a text that isn't blank begins a script."""
-    return re.match(rb"(#[^\n]*\n|\n)*boot ", data) is not None
-
-
 def events_of(program: str, path: str, data: bytes) -> list[Event]:
     """The lines of a good script that aren't blank, after the first one."""
     sentences, good = why.why(program, path, data, False)
-    if not good:
-        raise Failed("\n".join(sentences))
+    ensure(good, "\n".join(sentences))
     lines = enumerate(script.lines(data), 1)
     return [Event(number, line.decode()) for number, line in lines if line and not line.startswith(b"#")][1:]
 
@@ -502,8 +486,7 @@ def before(lines: list[str], step: int) -> list[str]:
 
 def of_name(named: Named, address: int) -> Target:
     index = named.word[1] + (address - named.address) // 4
-    if not 0 <= index < 1024:
-        raise Failed("that is outside of the name's page")
+    ensure(0 <= index < 1024, "that is outside of the name's page")
     return Target(None, address, (named.word[0], index))
 
 

@@ -9,6 +9,7 @@ import subprocess
 import sys
 import tempfile
 import unittest
+from collections.abc import Callable
 
 from common import calling
 from common.blocks import blocks, listed
@@ -160,31 +161,21 @@ class Walks(unittest.TestCase):
     def move(self, walker: States, edits: list[tuple[int, Edit]], drawn: random.Random) -> None:
         here, step = walker.now.step, drawn.randrange(0, 2000)
         stops = [f"line 1 {drawn.choice(['call', 'out', 'switch', 'reply'])}", *["idle"] * drawn.randrange(2)]
-        what = drawn.randrange(8)
-        if what < 2:
-            walker.go(step)
-        elif what == 2:
-            walker.run(max(step, here), stops)
-        elif what == 3:
-            walker.back(min(step, here), stops)
-        elif what == 4:
-            walker.turn()
-        elif what == 5:
-            walker.changed(min(step, here))
-        elif what == 6:
-            walker.trace(min(step, here), here)
-        elif here:
-            edit = self.some_edit(walker, drawn)
-            edits[:] = [one for one in edits if one[0] <= here] + [(here, edit)]
-            walker.edit(*edit)
+        before = min(step, here)
+        moves: list[Callable[[], object]] = [
+            lambda: walker.go(step), lambda: walker.go(step), lambda: walker.run(max(step, here), stops),
+            lambda: walker.back(before, stops), walker.turn, lambda: walker.changed(before),
+            lambda: walker.trace(before, here), lambda: here and self.edit(walker, edits, drawn)]
+        drawn.choice(moves)()
 
-    def some_edit(self, walker: States, drawn: random.Random) -> Edit:
-        cpu, word = drawn.randrange(walker.cpus), drawn.choice([0, 1, 0x400000, 0xFFFFFFFF])
-        edits: list[Edit] = [("seed", drawn.randrange(1, 1000)), ("plan", 0, drawn.randrange(2000), 50),
-                             ("no_plan", 0), ("raise", drawn.randrange(16)),
-                             ("register", cpu, drawn.randrange(17), word),
-                             ("store", cpu, drawn.choice([0, 0x400002, 0x403000, 0xFFFFF000]), word)]
-        return drawn.choice(edits)
+    def edit(self, walker: States, edits: list[tuple[int, Edit]], drawn: random.Random) -> object:
+        cpu, word, here = drawn.randrange(walker.cpus), drawn.choice([0, 1, 0x400000, 0xFFFFFFFF]), walker.now.step
+        some: list[Edit] = [("seed", drawn.randrange(1, 1000)), ("plan", 0, drawn.randrange(2000), 50),
+                            ("no_plan", 0), ("raise", drawn.randrange(16)),
+                            ("register", cpu, drawn.randrange(17), word),
+                            ("store", cpu, drawn.choice([0, 0x400002, 0x403000, 0xFFFFF000]), word)]
+        edits[:] = [one for one in edits if one[0] <= here] + [(here, drawn.choice(some))]
+        return walker.edit(*edits[-1][1])
 
     def compare(self, walker: States, straight: States, path: str, seed: int, edits: list[tuple[int, Edit]]) -> None:
         here = walker.now.step
@@ -214,28 +205,15 @@ class Requests(WithStates):
 
 
 class Changes(WithStates):
-    def test_changes_are_made_again(self) -> None:
-        """What was changed by hand on the way is there again after the way back and forward."""
-        debugger = Debugger(PROGRAM, self.states, MONITOR, "seed 1", 10)
-        states = debugger.states
-        states.go(300)
-        states.edit("register", 0, 1, 1000)
-        states.go(450)
-        due = states.registers(), states.core()
-        states.go(299)
-        self.assertFalse(states.now.edited)
-        states.go(450)
-        self.assertTrue(states.now.edited)
-        self.assertEqual((states.registers(), states.core()), due)
-
     def test_plans_go_back(self) -> None:
+        """And so does whether something was changed by hand."""
         Debugger(PROGRAM, self.states, MONITOR)
         self.states.go(300)
         self.states.edit("plan", 3, 400, 50)
-        self.assertEqual(self.states.plans, [[0, 500, 40], [3, 400, 50]])
+        self.assertEqual((self.states.plans, self.states.now.edited), ([[0, 500, 40], [3, 400, 50]], True))
         self.states.go(299)
-        self.assertEqual(self.states.plans, [[0, 500, 40]])
-        self.states.go(401)
+        self.assertEqual((self.states.plans, self.states.now.edited), ([[0, 500, 40]], False))
+        self.assertTrue(self.states.go(401).edited)
         turn = self.states.turn()
         assert turn
         self.assertEqual((turn.step, turn.raised), (400, [3]))

@@ -19,7 +19,8 @@ from urllib.parse import unquote, urlparse
 
 from authors import asmx, why
 from common import calling, meanings
-from common.calling import Failed
+from common.calling import Failed, ensure
+from common.meanings import ASSEMBLY, FORMS
 from common.machine import instructions, script
 from . import wire
 from .wire import Message
@@ -101,25 +102,15 @@ def wrong_lines(program: str, text: bytes, is_assembly: bool) -> Iterator[Wrong]
 
 def told(cause: why.Cause) -> str:
     """What is there, and the rule."""
-    return f"{cause.here}\nrule: {meanings.causes()[cause.name][1]}"
+    return f"{cause.here}\nrule: {meanings.CAUSES[cause.name][1]}"
 
 
 # What words mean
 
-def forms() -> dict[str, str]:
-    """Of each first word of a script's line: its form and what it does."""
-    return meanings.words("forms")
-
-
-def assembly_words() -> dict[str, str]:
-    """The same of assembly texts, with the lines of tools/asmx."""
-    return meanings.words("assembly")
-
-
 def of_call(number: str, values: list[str]) -> str:
     """A call by its number, with its arguments beside their names."""
     try:
-        name, arguments = meanings.calls()[int(number, 0)]
+        name, arguments = meanings.CALLS[int(number, 0)]
     except (KeyError, ValueError):
         return f"no call has the number {number}"
     given = f"\n\nhere: {', '.join(values)}" if values else ""
@@ -134,7 +125,7 @@ def of_vector(number: str) -> str:
         return ""
     if not 0 <= vector < 256:
         return "a vector is below 256"
-    told = meanings.vectors().get(vector)
+    told = meanings.VECTORS.get(vector)
     plain = "" if vector in meanings.LINES else ": a trap or a yield with this vector"
     return f"vector {vector}: {told}" if told else meanings.of_vector(vector) + plain
 
@@ -146,7 +137,7 @@ def meaning_in_script(words: list[str], word: str, at: int) -> str:
         return of_vector(word)
     if words[0] == "call" and len(words) > 2 and at:
         return of_call(words[2], words[3:])
-    return forms().get(words[0], "")
+    return FORMS.get(words[0], "")
 
 
 # Names
@@ -156,7 +147,7 @@ def uses(name: str, path: str, texts: Texts) -> Iterator[Found]:
     for place, words in asmx.lines_of(path, texts):
         first = 1 if words and words[0].endswith(":") else 0
         for number, word in enumerate(words):
-            if number == first and word in assembly_words():
+            if number == first and word in ASSEMBLY:
                 continue
             for found in NAME_IN.finditer(word):
                 if found[0] == name:
@@ -275,11 +266,11 @@ class Server:
         if words[0].endswith(":") and word != words[0]:
             words = words[1:]
         if words[:1] == ["sys"] and len(words) > 1 and word in words:
-            return of_call(words[1], []) + ("\n\n" + assembly_words()["sys"] if word == "sys" else "")
+            return of_call(words[1], []) + ("\n\n" + ASSEMBLY["sys"] if word == "sys" else "")
         if words[0] in ("int", ".handler") and words[1:2] == [word]:
             return of_vector(word)
-        if word in assembly_words() and word == words[0] or word in instructions.OPCODES:
-            return assembly_words().get(word, "")
+        if word in ASSEMBLY and word == words[0] or word in instructions.OPCODES:
+            return ASSEMBLY.get(word, "")
         return self.meaning_of_name(path, word.strip("<>:"))
 
     def meaning_of_name(self, path: str, name: str) -> str:
@@ -335,12 +326,10 @@ class Server:
     def on_textdocument_rename(self, given: Any) -> Any:
         path, name, _ = self.name_at(given)
         new = given["newName"]
-        if not name:
-            raise Failed("no name of this text is here")
-        if not GIVEN.fullmatch(new):
-            raise Failed(f"{new!r} can't be a name: it has letters, digits and _, at most 32, and is no register")
-        if new in definitions(path, self.files()):
-            raise Failed(f"{new} is defined already")
+        ensure(name, "no name of this text is here")
+        ensure(GIVEN.fullmatch(new), f"{new!r} can't be a name: it has letters, digits and _, at most 32, and is no "
+               "register")
+        ensure(new not in definitions(path, self.files()), f"{new} is defined already")
         changes: dict[str, list[Any]] = {}
         for one in self.found(path, name):
             changes.setdefault(self.uri(one.file), []).append(
@@ -369,7 +358,7 @@ class Server:
         elif ahead[:1] == [".may"] and ahead[2:] == ["call"]:
             yield from call_items()
         elif len([word for word in before if word]) < 2 or before[-2:-1] and before[-2].endswith(":"):
-            known = ((name, text) for name, text in assembly_words().items() if LETTER.search(name))
+            known = ((name, text) for name, text in ASSEMBLY.items() if LETTER.search(name))
             yield from ((name, KEYWORD, text) for name, text in known if name != "NAME:")
         elif before[-2:-1] == ["sys"]:
             yield from call_items()
@@ -382,13 +371,13 @@ class Server:
 def script_items(before: list[str]) -> Iterator[tuple[str, int, str]]:
     """First words of a script's line; after `call P` the calls."""
     if len(before) == 1:
-        yield from ((name, KEYWORD, text) for name, text in forms().items())
+        yield from ((name, KEYWORD, text) for name, text in FORMS.items())
     elif before[0] == "call" and len(before) == 3:
         yield from call_items()
 
 
 def call_items() -> Iterator[tuple[str, int, str]]:
-    yield from ((str(number), KEYWORD, f"{name}: {told}") for number, (name, told) in meanings.calls().items())
+    yield from ((str(number), KEYWORD, f"{name}: {told}") for number, (name, told) in meanings.CALLS.items())
 
 
 def deed_items(place: int) -> Iterator[tuple[str, int, str]]:
@@ -396,7 +385,7 @@ def deed_items(place: int) -> Iterator[tuple[str, int, str]]:
     if place == 1:
         yield "each", KEYWORD, "every partition but the root; else the name of one"
     else:
-        yield from ((name, KEYWORD, forms()[name]) for name in asmx.DEEDS)
+        yield from ((name, KEYWORD, FORMS[name]) for name in asmx.DEEDS)
 
 
 def item(label: str, kind: int, told: str) -> dict[str, Any]:

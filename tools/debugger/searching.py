@@ -21,9 +21,9 @@ from pathlib import Path
 from typing import IO, NamedTuple
 
 from common import calling, meanings
-from common.calling import Failed
+from common.calling import Failed, ensure
 from common.machine import image as images, runs
-from common.machine.every import AT_FIRST, After
+from common.machine.runs import AT_FIRST, After
 from .building import SEARCHES
 from .progress import Progress
 from .rules import Rule
@@ -96,8 +96,8 @@ def read(lines: list[str]) -> Search:
     end = next((at for at, line in enumerate(lines) if END.fullmatch(line)), 0)
     found = [LINE.fullmatch(line) for line in lines[1:end]]
     again = lines[end + 1:]
-    if not end or None in found or not all(AGAIN.fullmatch(line) or AWAY.fullmatch(line) for line in again):
-        raise Failed("what the program wrote is no text of 'every'")
+    ensure(end and None not in found and all(AGAIN.fullmatch(line) or AWAY.fullmatch(line) for line in again),
+           "what the program wrote is no text of 'every'")
     return Search(lines[0], [Line(int(x[1]), x[2], x[3], x[4]) for x in found if x], lines[end], again)
 
 
@@ -182,15 +182,12 @@ class Running:
         try:
             self.speaking: Speaking | None = Speaking(SEARCHES.path(), asked)
         except Failed as failed:
-            self.need_no_process(failed)
+            if asked.until or asked.rules:
+                raise
+            print(f"no progress is shown: {failed}", file=sys.stderr)
+            self.speaking = None
         with calling.running(program):
             self.program = subprocess.Popen([direct, *asked.words()], stdin=given, stdout=told)
-
-    def need_no_process(self, failed: Failed) -> None:
-        if self.asked.until or self.asked.rules:
-            raise failed
-        print(f"no progress is shown: {failed}", file=sys.stderr)
-        self.speaking = None
 
     def stop(self) -> None:
         self.is_stopped = True

@@ -9,7 +9,7 @@ from typing import NamedTuple
 
 from authors import asmx
 from authors.asmx import Place
-from common.calling import Failed
+from common.calling import Failed, ensure
 from common.machine import assembly, image as images, script
 from common.machine.model import PAGE
 
@@ -41,8 +41,7 @@ class Source:
         return "" if word is None else nearest(self.by_frame.get(word[0], []), word[1])
 
     def named(self, name: str) -> Named:
-        if name not in self.names:
-            raise Failed(f"no line of the source defines the name {name}")
+        ensure(name in self.names, f"no line of the source defines the name {name}")
         return self.names[name]
 
     def place(self, word: Word | None, holds: int | None) -> Place | None:

@@ -19,7 +19,7 @@ from typing import Any
 
 from authors import trace
 from common import calling, meanings
-from common.calling import Failed
+from common.calling import Failed, ensure, there
 from common.machine.model import PAGE
 from . import building, sources
 from .client import EVERY, States, Stopped
@@ -96,15 +96,8 @@ class Terminal(cmd.Cmd):
         if meaning:
             print(f"       {meaning}")
         print(f"  next {debugger.told_coming(debugger.states.next())}")
-        line = self.source_line()
-        if line:
-            print(f"       {line}")
-
-    def source_line(self) -> str:
-        place = self.debugger.next_place()
-        if place is None:
-            return ""
-        return f"{place.file}:{place.line}: {lines_of(place.file)[place.line - 1].strip()}"
+        if place := debugger.next_place():
+            print(f"       {place.file}:{place.line}: {lines_of(place.file)[place.line - 1].strip()}")
 
     # Moves
 
@@ -151,8 +144,7 @@ class Terminal(cmd.Cmd):
         if "partition" in words:
             at = words.index("partition")
             part, words = int(words[at + 1], 0), words[:at]
-        if len(words) != 1:
-            raise Failed("break has a name, a line of the source or an address")
+        ensure(len(words) == 1, "break has a name, a line of the source or an address")
         stop = self.debugger.add_break(words[0], part, condition.strip() or None, after)
         print(f"{stop.number}: break at {stop.told()}")
 
@@ -160,8 +152,7 @@ class Terminal(cmd.Cmd):
         """catch fault|park|refused|interrupt [after N], or words of a trace line, as reply 8, out, switch * 28: stops
         after such a turn."""
         words, after = counted(text.split())
-        if not words:
-            raise Failed("catch has words of a line")
+        ensure(words, "catch has words of a line")
         stop = self.debugger.add_line(" ".join(words), after)
         print(f"{stop.number}: a turn whose line has {stop.told()}")
 
@@ -170,8 +161,7 @@ class Terminal(cmd.Cmd):
         address also by another page; or a register of a partition, the one that runs or P, that runs before and after
         it."""
         words, after = counted(text.split())
-        if not words:
-            raise Failed("watch has a name, an address of a partition, a word of a frame, or a register")
+        ensure(words, "watch has a name, an address of a partition, a word of a frame, or a register")
         stop = self.debugger.add_watch(words[0], int(words[1], 0) if words[1:] else 1, after)
         kind, *where, count = stop.parts[0].split()
         told = f", address 0x{int(where[1]):08x} of partition {where[0]}" if kind == "address" else \
@@ -181,8 +171,7 @@ class Terminal(cmd.Cmd):
     def do_delete(self, text: str) -> None:
         """delete [N]: takes a stop away, or all."""
         if text:
-            if self.debugger.stops.pop(int(text), None) is None:
-                raise Failed(f"there is no stop {text}")
+            ensure(self.debugger.stops.pop(int(text), None) is not None, f"there is no stop {text}")
         else:
             self.debugger.stops.clear()
 
@@ -207,8 +196,8 @@ class Terminal(cmd.Cmd):
 
     def do_processor(self, text: str) -> None:
         """processor CPU: addresses without a partition, and registers in conditions, are those of this one."""
-        if not text.isdecimal() or int(text) >= self.debugger.states.cpus:
-            raise Failed(f"processors are 0 to {self.debugger.states.cpus - 1}")
+        ensure(text.isdecimal() and int(text) < self.debugger.states.cpus, "processors are 0 to "
+               f"{self.debugger.states.cpus - 1}")
         self.debugger.cpu = int(text)
 
     def do_words(self, text: str) -> None:
@@ -227,9 +216,8 @@ class Terminal(cmd.Cmd):
         """translate ADDRESS|P:ADDRESS: the way from an address of a partition to its frame."""
         target = self.debugger.target(text)
         part = self.debugger.partition() if target.part is None else target.part
-        if target.address is None:
-            raise Failed("a word of a frame has no address")
-        print("\n".join(translation(self.debugger, part, target.address)))
+        address = there(target.address, "a word of a frame has no address")
+        print("\n".join(translation(self.debugger, part, address)))
 
     def do_tree(self, text: str) -> None:
         """tree [P]: the partitions; of one, its pages."""
@@ -256,16 +244,13 @@ class Terminal(cmd.Cmd):
     def do_list(self, text: str) -> None:
         """list [NAME|LINE]: lines of the source around the next turn, or around a name or a line."""
         source = self.debugger.source
-        if source.path is None:
-            raise Failed("there is no source: words ADDRESS shows instructions")
+        file = there(source.path, "there is no source: words ADDRESS shows instructions")
         if text.isdecimal():
-            file, at = source.path, int(text)
+            at = int(text)
         else:
             named = text and self.debugger.target(text).word
-            place = source.line_of.get(named or (0, 0)) if text else self.debugger.next_place()
-            if place is None:
-                raise Failed("no line of the source is there")
-            file, at = place.file, place.line
+            file, at = there(source.line_of.get(named or (0, 0)) if text else self.debugger.next_place(),
+                             "no line of the source is there")
         for number, line in list(enumerate(lines_of(file), 1))[max(0, at - 1 - AROUND):at + AROUND]:
             print(f"{'>' if number == at else ' '}{number:>5}  {line}")
 
@@ -336,8 +321,7 @@ class Terminal(cmd.Cmd):
     def do_way(self, text: str) -> None:
         """way N, or the choices of a way: its choices are the schedule, from the beginning. seed N ends it."""
         if text.isdecimal() and self.way_texts:
-            if not 1 <= int(text) <= len(self.way_texts):
-                raise Failed("no such line was found: every STATES searches")
+            ensure(1 <= int(text) <= len(self.way_texts), "no such line was found: every STATES searches")
             text = self.way_texts[int(text) - 1]
         self.stopped(self.debugger.take_way(text))
 
@@ -461,7 +445,10 @@ def work(given: argparse.Namespace) -> int:
             with_history(lambda: loop(terminal))
         else:
             terminal.where()
-            typed_along(terminal)
+            for line in sys.stdin:                               # each is shown before its answer
+                print(f"(pip) {line.rstrip()}")
+                if line.strip() and terminal.onecmd(line.strip()):
+                    break
     finally:
         process.end()
     return 0
@@ -470,8 +457,7 @@ def work(given: argparse.Namespace) -> int:
 def listed(debugger: Debugger, steps: int, first: int, part: int | None) -> int:
     """Prints steps, and all registers at the end. The status is 1 where the program has other lines."""
     steps = min(steps, debugger.states.now.end)
-    if debugger.is_script:
-        raise Failed("a script is its own list: its lines are the steps")
+    ensure(not debugger.is_script, "a script is its own list: its lines are the steps")
     print("# of the same text as the program, not of the same proof; the lines at the right are compared with its own")
     for turn in debugger.states.listed(min(first, steps), steps):
         if part in (None, turn.part):
@@ -487,11 +473,3 @@ def listed(debugger: Debugger, steps: int, first: int, part: int | None) -> int:
         return 1
     print(f"# the program has the same {len(due)} lines")
     return 0
-
-
-def typed_along(terminal: Terminal) -> None:
-    """Words from a file or a pipe: each is shown before its answer."""
-    for line in sys.stdin:
-        print(f"(pip) {line.rstrip()}")
-        if line.strip() and terminal.onecmd(line.strip()):
-            return

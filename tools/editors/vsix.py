@@ -16,37 +16,15 @@ HERE = os.path.dirname(os.path.abspath(__file__))
 BEGUN = (1980, 1, 1, 0, 0, 0)        # the time of each file, so that the same files make the same bytes
 TYPES = {".json": "application/json", ".js": "application/javascript", ".md": "text/markdown", ".txt": "text/plain",
          ".vsixmanifest": "text/xml"}
-MANIFEST = """<?xml version="1.0" encoding="utf-8"?>
-<PackageManifest Version="2.0.0" xmlns="http://schemas.microsoft.com/developer/vsx-schema/2011">
-  <Metadata>
-    <Identity Language="en-US" Id={name} Version={version} Publisher={publisher}/>
-    <DisplayName>{display}</DisplayName>
-    <Description xml:space="preserve">{description}</Description>
-    <Categories>{categories}</Categories>
-    <License>extension/LICENSE.txt</License>
-    <Properties>
-      <Property Id="Microsoft.VisualStudio.Code.Engine" Value={engine}/>
-    </Properties>
-  </Metadata>
-  <Installation>
-    <InstallationTarget Id="Microsoft.VisualStudio.Code"/>
-  </Installation>
-  <Dependencies/>
-  <Assets>
-    <Asset Type="Microsoft.VisualStudio.Code.Manifest" Path="extension/package.json" Addressable="true"/>
-    <Asset Type="Microsoft.VisualStudio.Services.Content.Details" Path="extension/README.md" Addressable="true"/>
-    <Asset Type="Microsoft.VisualStudio.Services.Content.License" Path="extension/LICENSE.txt" Addressable="true"/>
-  </Assets>
-</PackageManifest>
-"""
 
 
 def manifest(told: Any) -> str:
     """The list for the editor, by package.json."""
-    return MANIFEST.format(name=quoteattr(told["name"]), version=quoteattr(told["version"]),
-                           publisher=quoteattr(told["publisher"]), display=escape(told["displayName"]),
-                           description=escape(told["description"]), categories=escape(",".join(told["categories"])),
-                           engine=quoteattr(told["engines"]["vscode"]))
+    form = calling.contents(os.path.join(HERE, "manifest.xml")).decode()
+    return form.format(name=quoteattr(told["name"]), version=quoteattr(told["version"]),
+                       publisher=quoteattr(told["publisher"]), display=escape(told["displayName"]),
+                       description=escape(told["description"]), categories=escape(",".join(told["categories"])),
+                       engine=quoteattr(told["engines"]["vscode"]))
 
 
 def content_types() -> str:

@@ -7,4 +7,4 @@ sys.path[0] = os.path.join(os.path.dirname(os.path.realpath(__file__)), os.pardi
 
 from common import launch
 
-launch.main()
+launch.main("common.draw.pictures")

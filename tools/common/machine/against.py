@@ -1,18 +1,20 @@
-"""What can happen to an image where partitions do anything of a menu, and the text of a menu.
+"""What can happen to an image over all interleavings, where partitions may do anything of a menu; and the text of a
+menu.
 
 A partition is hostile where a deed of the menu is its own. Where it runs, its program has no turns: it waits for a
-line, or does one of its deeds.
+line, or does one of its deeds. A moment is a world without its caches, and the turns made so far, counted up to the one
+from which on lines can come. A turn that changes nothing, for its processor runs nothing, stands for all that are left.
 """
 
 from __future__ import annotations
 
 from collections.abc import Callable, Sequence
+from dataclasses import replace
 from typing import NamedTuple
 
 from . import script
-from .every import Label, Moment, Moments, label_of
 from .image import Image
-from .model import ROOT, WORDS as WORDS_OF_PAGE, Done, Running, World
+from .model import ROOT, WORDS as WORDS_OF_PAGE, Done, Running, Tree, World
 from .runs import Turn
 from .script import BadLine
 
@@ -141,35 +143,60 @@ def is_hostile(at: Running | None, deeds: Sequence[Deed]) -> bool:
     return at is not None and any(deed.is_of(at.name) for deed in deeds)
 
 
-class MenuMoments(Moments):
-    """The same moments with more choices: after the lines each deed on all processors, before the next."""
+# Choice by choice
 
-    def __init__(self, image: Image, first: int, start: World, deeds: list[Deed]) -> None:
-        super().__init__(image, first, start)
-        self.deeds = deeds
-        self.usual = self.cpus + len(self.lines)
+Label = tuple[int, str]                          # a processor, and a line of the trace without it and the step
 
-    @property
-    def choices(self) -> range:
-        return range(self.usual + self.cpus * len(self.deeds))
+
+class Moment(NamedTuple):
+    """Two moments are one state where all of this is equal. A moment isn't changed: `world` makes one of its own."""
+
+    turns: int
+    tree: Tree
+    processors: list[Running | None]
+
+    def world(self) -> World:
+        nodes = {name: replace(x, tables=list(x.tables), more=list(x.more), rows=dict(x.rows), pending=set(x.pending))
+                 for name, x in self.tree.nodes.items()}
+        words = {page: dict(words) for page, words in self.tree.words.items()}
+        return World(Tree(self.tree.frames, nodes, words), list(self.processors))
+
+
+class Moments:
+    """The moments of an image from a world on, and the choices that lead from one to another: the turn of a processor,
+    a line of the image's plans, and each deed of a menu on all processors, before the next."""
+
+    def __init__(self, image: Image, first: int, start: World, deeds: Sequence[Deed] = ()) -> None:
+        self.cpus, self.first, self.deeds = image.cpus, first, deeds
+        self.lines = [plan.line for plan in image.plans]
+        self.usual = self.cpus + len(self.lines)                 # choices that aren't deeds
+        self.choices = range(self.usual + self.cpus * len(deeds))
+        self.start = Moment(0, start.tree, start.processors)
 
     def choice_text(self, choice: int) -> str:
         if choice < self.usual:
-            return super().choice_text(choice)
+            return str(choice) if choice < self.cpus else f"raise{self.lines[choice - self.cpus]}"
         deed, cpu = divmod(choice - self.usual, self.cpus)
         return f"{cpu}:d{deed + 1}"
 
     def after(self, before: Moment, choice: int) -> tuple[Moment, Label | None]:
+        """The moment after a choice, and what the choice shows."""
+        if choice < self.cpus:
+            return self.after_turn(before, choice, None)
         if choice >= self.usual:
-            place, cpu = divmod(choice - self.usual, self.cpus)
-            at, deed = before.processors[cpu], self.deeds[place]
-            return self.after_deed(before, cpu, deed) if at and deed.is_of(at.name) else (before, None)
-        if choice < self.cpus and is_hostile(before.processors[choice], self.deeds):
-            return self.after_deed(before, choice, None)
-        return super().after(before, choice)
-
-    def after_deed(self, before: Moment, cpu: int, deed: Deed | None) -> tuple[Moment, Label | None]:
+            deed, cpu = divmod(choice - self.usual, self.cpus)
+            at = before.processors[cpu]
+            is_own = at is not None and self.deeds[deed].is_of(at.name)
+            return self.after_turn(before, cpu, self.deeds[deed]) if is_own else (before, None)
         world = before.world()
-        told: list[str] = []
-        Hostile(world, cpu, 0, told.append, deed).take()
-        return Moment(min(before.turns + 1, self.first), world.tree, world.processors), label_of(told)
+        if before.turns >= self.first:
+            world.raise_line(self.lines[choice - self.cpus])
+        return Moment(before.turns, world.tree, world.processors), None
+
+    def after_turn(self, before: Moment, cpu: int, deed: Deed | None) -> tuple[Moment, Label | None]:
+        world, at, told = before.world(), before.processors[cpu], list[str]()
+        is_own = not is_hostile(at, self.deeds)
+        (Turn(world, cpu, 0, told.append) if is_own else Hostile(world, cpu, 0, told.append, deed)).take()
+        stays_idle = at is None and world.processors[cpu] is None
+        turns = self.first if stays_idle else min(before.turns + 1, self.first)
+        return Moment(turns, world.tree, world.processors), (cpu, told[0].split(" ", 2)[2]) if told else None

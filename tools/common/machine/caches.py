@@ -38,10 +38,6 @@ class Cache:
         if row is not None:
             self.entries[vpage % PLACES] = Entry(part, vpage, row.page, row.rights)
 
-    def empty(self) -> None:
-        """Forgets every entry. What was counted isn't forgotten."""
-        self.entries.clear()
-
     def __str__(self) -> str:
         return f"hits {self.hits} misses {self.misses}"
 

@@ -574,7 +574,7 @@ class World:
             answer = Reply(Status.OK, self.reply(self.node_on(cpu), number, arguments))
             if takes_pages(number, answer.value):
                 for cache in self.caches:
-                    cache.empty()
+                    cache.entries.clear()           # what was counted isn't forgotten
         except Refused as refusal:
             answer = Reply(refusal.status, 0)
         at = self.running_on(cpu)

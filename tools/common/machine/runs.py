@@ -1,6 +1,7 @@
 """Runs of an image: turns of processors, and the texts of the commands run, tree, core and soak."""
 
 from collections.abc import Callable, Iterator, Sequence
+from typing import NamedTuple
 
 from . import layout
 from .image import Image, is_due, world as image_world
@@ -132,7 +133,17 @@ def first_line(image: Image) -> str:
     return f"image {image.frames} {image.cpus} {len(image.plans)} {len(image.pages)}"
 
 
-def steps(image: Image, count: int, seed: int, told: Callable[[str], object]) -> World:
+class After(NamedTuple):
+    """Where a search begins: after so many steps of a run by the schedule of a seed."""
+
+    steps: int
+    seed: int
+
+
+AT_FIRST = After(0, 1)
+
+
+def steps(image: Image, count: int, seed: int, told: Callable[[str], object] = lambda line: None) -> World:
     """The world after that many steps of an image."""
     world = image_world(image)
     for step, cpu, _ in drawn(image, world, count, seed):
@@ -150,12 +161,12 @@ def run(image: Image, count: int, seed: int) -> tuple[list[str], World]:
 
 
 def tree(image: Image, count: int, seed: int) -> tuple[list[str], World]:
-    world = steps(image, count, seed, lambda line: None)
+    world = steps(image, count, seed)
     return tree_lines(world.tree) + [f"end {count}"], world
 
 
 def core(image: Image, count: int, seed: int) -> tuple[list[str], World]:
-    world = steps(image, count, seed, lambda line: None)
+    world = steps(image, count, seed)
     return core_lines(world.tree) + [f"end {count}"], world
 
 
