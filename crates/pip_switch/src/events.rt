@@ -72,7 +72,7 @@ pub(crate) fn by_parts(outcome: Outcome) -> Outcome
 
 // An access at an address that failed.
 #[derive(Clone, Copy)]
-struct Failed {
+struct FailedAccess {
     va: u32,
     access: Access,
     fault: AccessFault,
@@ -85,7 +85,7 @@ fn deliver_fault<M: Frames, L: Ledger>(
     cpus: &mut Processors,
     cpu: u32,
     part: Frame,
-    failed: Failed,
+    failed: FailedAccess,
     steps: &mut Steps<L>,
 ) -> Outcome
     requires world { HasWorld (M.memory mem.old) cpus.old.items }
@@ -139,7 +139,7 @@ pub(crate) fn load<M: Frames, L: Ledger>(
     ) {
         Ok(word) => Outcome::Word(word),
         Err(fault) => {
-            let failed = Failed {
+            let failed = FailedAccess {
                 va,
                 access: Access::Load,
                 fault,
@@ -151,7 +151,7 @@ pub(crate) fn load<M: Frames, L: Ledger>(
 
 /// What is written at an address: a word, or a byte below 256.
 #[derive(Clone, Copy)]
-pub(crate) struct Written {
+pub(crate) struct StoredWord {
     pub va: u32,
     pub size: Size,
     pub word: u32,
@@ -164,7 +164,7 @@ pub(crate) fn store<M: Frames, L: Ledger>(
     cpus: &mut Processors,
     caches: &mut Caches,
     cpu: u32,
-    written: Written,
+    written: StoredWord,
     steps: &mut Steps<L>,
 ) -> Outcome
     requires world { HasCachedWorld (M.memory mem.old) cpus.old.items caches.old.items }
@@ -183,11 +183,11 @@ pub(crate) fn store<M: Frames, L: Ledger>(
     let Some(part) = runner(cpus, cpu) else {
         return Outcome::Idle;
     };
-    let Written { va, size, word } = written;
+    let StoredWord { va, size, word } = written;
     match pip_mmu::store_through(mem, &mut caches[cpu as usize], part, va, size, word, steps) {
         Ok(()) => Outcome::Done,
         Err(fault) => {
-            let failed = Failed {
+            let failed = FailedAccess {
                 va,
                 access: Access::Store,
                 fault,
@@ -222,7 +222,7 @@ pub(crate) fn fetch<M: Frames, L: Ledger>(
     match pip_mmu::fetch_through(mem, &mut caches[cpu as usize], part, pc, steps) {
         Ok(word) => Outcome::Word(word),
         Err(fault) => {
-            let failed = Failed {
+            let failed = FailedAccess {
                 va: pc,
                 access: Access::Fetch,
                 fault,

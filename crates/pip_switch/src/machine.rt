@@ -171,7 +171,7 @@ impl<M: Frames> Port for Machine<M> {
         ensures hit { HitReadsOne self.old.caches self.old.cpus cpu (λ r. va) result steps.old steps.new }
         ensures work { TakesAtMost (StandsAs self.old) (E.Store cpu va size word) steps.old steps.new }
     {
-        let written = events::Written { va, size, word };
+        let written = events::StoredWord { va, size, word };
         events::store(
             &mut self.mem,
             &mut self.cpus,
