@@ -1,7 +1,7 @@
 """Where tools/every --any says that a monitor holds against every program, programs that are drawn show no other line.
 
 The runs are the reference's, on the image with other words in the pages that are left out. A run ends where a program
-leaves what the answer speaks of: it stores another value to an entry that is seen, or to another page.
+leaves what the answer speaks of: it stores a value to an entry whose class isn't on the menu, or to another page.
 """
 
 from __future__ import annotations
@@ -69,7 +69,7 @@ def shown(image: Image, out: guests.LeftOut, named: set[str], drawn: random.Rand
         runs.Turn(world, 0, step, told.append).take()
         after = world.processors[0]
         is_own = before is not None and before.name in out.own
-        if is_own and any(world.tree.word(*place) not in values for place, values in out.seen.items()):
+        if is_own and not out.allows(world):
             break
         is_inside = is_own and before is not None and after is not None and before.name == after.name
         exits += is_own and not is_inside
@@ -81,11 +81,11 @@ def shown(image: Image, out: guests.LeftOut, named: set[str], drawn: random.Rand
 
 def put(world: World, page: int, out: guests.LeftOut, drawn: random.Random) -> None:
     """Draws the words of a page: instructions, and where the handler table is a context with the image's pc."""
-    is_table = (page, SAVED) in out.seen
+    is_table = page in map(out.table, out.own)
     block = world.tree.word(page, SAVED) % PAGE // 4
     pc = world.tree.word(page, block)
     for index in range(WORDS):
-        if (page, index) not in out.seen:
+        if (page, index) not in out.seen and out.owner(page, index) is None:
             word = drawn.choice((0, 1, 0xfffff400, drawn.getrandbits(32))) if is_table else encode(instruction(drawn))
             world.tree.set_word(page, index, word)
     if is_table:

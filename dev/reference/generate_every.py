@@ -18,7 +18,7 @@ from common.machine.model import HANDLERS, PAGE, ROOT, SAVED
 from .phrases import LINES
 from common.machine.runs import Turn
 
-CHILD = CHILDREN[0]
+CHILD, DATA = CHILDREN[0], 0x10001000
 LONGEST = 300                            # the first yield is looked for in at most so many turns
 STATES = (1, 2, 7, 40, 150, 400, 400, 400, 1000, 1000, 2500)
 
@@ -98,7 +98,8 @@ def case(seed: int) -> tuple[list[str], bytes]:
 # Menus
 
 SHORT = 60                               # labels are looked for in so many choices
-LEFT_OUT_ODDLY = ("any", "free 01", "seen 9", "seen 9 1024", "any 1 2", "free  9", "seen 9 1 ", "anyx 1")
+LEFT_OUT_ODDLY = ("any", "free 01", "seen 9", "seen 9 1024", "any 1 2", "free  9", "seen 9 1 ", "anyx 1", "entry 9",
+                  "entry 9 1 2", "row 9 0xfffff 36", "row 9 1 36 7 1", "row 9 1 36 7 ", "entry")
 
 
 def put(rng: random.Random, lines: list[bytes], line: bytes) -> None:
@@ -153,17 +154,30 @@ def left_out(rng: random.Random, data: bytes) -> list[bytes]:
     except image.BadImage:
         return []
     rows = world.tree.nodes[ROOT].rows
-    child, *pages = (rows[CHILD // PAGE + place].page if CHILD // PAGE + place in rows else 9 for place in (0, 11, 12))
+    child, *pages = (rows[CHILD // PAGE + place].page if CHILD // PAGE + place in rows else 9
+                     for place in (0, 11, 12, 13))
     lines = [f"any {rng.choice((child, child, child, ROOT, rng.randrange(48)))}"] * rng.choice((0, 1, 1, 1))
-    lines += [f"free {page}" for page in pages if rng.random() < 0.8]
+    lines += [f"free {page}" for page in pages[:2] if rng.random() < 0.8]
     lines += [f"free {rng.randrange(48)}"] * (rng.random() < 0.2)
-    lines += [f"seen {pages[1]} {vector}" for vector in (32, SAVED, 64, 65) if rng.random() < 0.8]
+    entry = f"entry {child}" if rng.random() < 0.6 else f"seen {pages[1]}"
+    lines += [f"{entry} {vector}" for vector in (32, SAVED, 64, 65) if rng.random() < 0.8]
+    if entry.startswith("entry") or rng.random() < 0.1:
+        lines += named_rows(rng, child, pages)
     lines += [f"seen {rng.choice(pages)} {rng.randrange(1024)}"] * (rng.random() < 0.2)
     if rng.random() < 0.06:
         lines.append(rng.choice(LEFT_OUT_ODDLY))
     if rng.random() < 0.03:
         lines += ["any 9"] * (63 + rng.randrange(3))
     return [line.encode() for line in lines]
+
+
+def named_rows(rng: random.Random, child: int, pages: list[int]) -> list[str]:
+    """Lines that name the rows of the child, most of them right."""
+    rows = [(CODE, pages[0], 5), (DATA, pages[2], 3), (HANDLERS, pages[1], 3)]
+    lines = [f"row {child} {address // PAGE:#x} {page} {rights}" for address, page, rights in rows]
+    if rng.random() < 0.15:
+        lines[rng.randrange(3)] = f"row {child} {rng.choice(rows)[0] // PAGE:#x} {rng.choice((9, *pages))} {rng.randrange(8)}"
+    return lines[::-1] if rng.random() < 0.05 else lines
 
 
 def menu_case(seed: int) -> tuple[list[str], bytes]:

@@ -1,9 +1,10 @@
 """Whether a monitor holds against every program of its children, and a report on it.
 
-The menu has every exit of a child that is confined: traps, faults, yields, and stores to the entries of its handler
-table that others read. Which words are left out is learned from the program's own answers: where it says `away no`, the
-way is made again by the reference, and an entry that is read there counts as seen from then on. What is said at the end
-is the program's, from one search with the menu that came out of this.
+The menu has every exit of a child that is confined, but for createPartition: traps, faults, yields, and stores to the
+entries of its handler table that others depend on, one of each class. Which entries these are is learned from the
+program's own answers: where it says `away no`, the way is made again by the reference, and the class of an entry that
+is read there counts as seen from then on; where the rows of its partition change, the entry itself. What is said at the
+end is the program's, from one search with the menu that came out of this.
 """
 
 from __future__ import annotations
@@ -16,8 +17,8 @@ from typing import NamedTuple
 from common import calling, meanings
 from common.calling import Failed
 from common.machine import against, image as images, runs
-from common.machine.model import (HANDLERS, LAST_BLOCK, LOAD, NOWHERE, PAGE, ROOT, SAVED, Context, Fault, Node, Tree,
-                                  World)
+from common.machine.model import (HANDLERS, LAST_BLOCK, LOAD, NOWHERE, PAGE, ROOT, SAVED, WRITE, Context, Fault, Node,
+                                  Row, Tree, World)
 from debugger import searching, sources
 from debugger.searching import AWAY, END, Asked, Search
 from . import ways
@@ -33,59 +34,126 @@ CALL = re.compile(r"call (\d+)")
 
 
 class LeftOut:
-    """The partitions whose programs may be any, their pages, and the words of these that others see, with the values
-    that a program may store there."""
+    """The partitions whose programs may be any, their pages, and the entries of their handler tables that others depend
+    on: by partition and vector those whose class is seen, and by page and word those of which all is, with the values
+    that they had."""
 
     def __init__(self) -> None:
         self.own: set[int] = set()
         self.pages: set[int] = set()
+        self.rows: dict[int, dict[int, Row]] = {}
+        self.entries: dict[tuple[int, int], set[int]] = {}
         self.seen: dict[tuple[int, int], set[int]] = {}
+        self.changed: set[int] = set()           # whose rows weren't those of the first state
         self.depth = 1                           # of partitions one in another, up to the root
 
     def __deepcopy__(self, memo: object) -> LeftOut:
         return self
 
+    def owner(self, page: int, index: int) -> int | None:
+        """The partition of which a word is an entry whose class is seen."""
+        return next((name for name, vector in self.entries if vector == index and self.table(name) == page), None)
+
+    def table(self, name: int) -> int:
+        row = self.rows.get(name, {}).get(HANDLERS // PAGE)
+        return row.page if row else 0
+
     def has(self, page: int, index: int) -> bool:
-        return page in self.pages and (page, index) not in self.seen
+        return page in self.pages and (page, index) not in self.seen and self.owner(page, index) is None
 
     def add(self, world: World, node: Node) -> None:
         """A partition with all its pages. Where it is saved is read by whoever interrupts it."""
         self.own.add(node.name)
-        self.pages |= {row.page for row in node.rows.values()}
+        self.keep(node)
         self.depth = max(self.depth, 1 + len(world.tree.proper_ancestors(node)))
         self.see(world, node, SAVED)
 
+    def keep(self, node: Node) -> None:
+        self.pages |= {row.page for row in node.rows.values()}
+        self.rows[node.name] = dict(node.rows)
+
     def see(self, world: World, node: Node, vector: int) -> None:
         page = node.row(HANDLERS).page
-        self.seen.setdefault((page, vector), {0}).add(world.tree.word(page, vector))
+        self.entries.setdefault((node.name, vector), set()).add(world.tree.word(page, vector))
+
+    def see_words(self, world: World, node: Node) -> None:
+        """Of all its entries the words are seen."""
+        for (name, vector), values in list(self.entries.items()):
+            if name == node.name:
+                del self.entries[name, vector]
+                page = node.row(HANDLERS).page
+                self.seen.setdefault((page, vector), {0}).update(values, {world.tree.word(page, vector)})
+
+    def class_of(self, name: int, word: int) -> int:
+        """That of a word in an entry: it names no block; one that can't be saved; one that is saved to words that are
+        left out; or it is alone."""
+        row = self.rows[name].get(word // PAGE)
+        if word % 4 or word % PAGE > LAST_BLOCK or row is None:
+            return 0
+        if not row.rights & WRITE:
+            return 1
+        first = word % PAGE // 4
+        return 2 if all(self.has(row.page, index) for index in range(first, first + 17)) else 3 + word
+
+    def classes(self, name: int, values: set[int]) -> dict[int, int]:
+        """A word of each class that the menu has for an entry: one that it had, so that few states come of it."""
+        addresses = (vpage * PAGE + at for vpage in self.rows[name] for at in range(0, LAST_BLOCK + 1, 4))
+        found: dict[int, int] = {}
+        for word in [0, *sorted(values), *addresses]:
+            if (kind := self.class_of(name, word)) < 3:
+                found.setdefault(kind, word)
+        return {**found, **{self.class_of(name, word): word for word in values if self.class_of(name, word) > 2}}
+
+    def allows(self, world: World) -> bool:
+        """Whether each entry has a value of a class that is on the menu, and each word that is seen one of its own."""
+        word = world.tree.word
+        return all(self.class_of(name, word(self.table(name), vector)) in self.classes(name, values)
+                   for (name, vector), values in self.entries.items()) \
+            and all(word(*place) in values for place, values in self.seen.items())
 
     def exits(self, who: object, yields: Iterable[int] = range(NOWHERE)) -> list[str]:
         """The deeds that are every exit of these partitions; yields to other vectors are refused."""
         stores = {(index, value) for (_, index), values in self.seen.items() for value in values}
+        stores |= {(vector, word) for (name, vector), values in self.entries.items()
+                   for word in self.classes(name, values).values()}
         return [*(f"{who} trap {vector} 0 0" for vector in (*FAULTS, *TRAPS)),
                 *(f"{who} call 8 0 {vector} {NOWHERE}" for vector in yields),
                 *(f"{who} st {HANDLERS + 4 * index:#010x} {value:#010x}" for index, value in sorted(stores))]
 
     def menu(self) -> list[str]:
+        kept = {name for name, _ in self.entries}
         return [*self.exits("each"), *(f"any {name}" for name in sorted(self.own)),
                 *(f"free {page}" for page in sorted(self.pages)),
-                *(f"seen {page} {index}" for page, index in sorted(self.seen))]
+                *(f"seen {page} {index}" for page, index in sorted(self.seen)),
+                *(f"entry {name} {vector}" for name, vector in sorted(self.entries)),
+                *(f"row {name} {vpage:#x} {row.page} {row.rights}" for name, rows in sorted(self.rows.items())
+                  if name in kept for vpage, row in sorted(rows.items()))]
 
 
 class Watched(Tree):
-    """A tree that notes which words are read that are left out."""
+    """A tree that notes which words are read that are left out, and which entries are by others than their partition."""
 
     def watch(self, out: LeftOut) -> None:
         self.out, self.read, self.is_blank = out, set[tuple[int, int]](), False
+        self.table_of: Node | None = None
 
     def word(self, page: int, index: int) -> int:
-        if not self.is_blank and self.out.has(page, index):
+        owner = self.out.owner(page, index)
+        is_missed = self.out.has(page, index) if owner is None else not self.is_entry(owner)
+        if not self.is_blank and is_missed:
             self.read.add((page, index))
         return super().word(page, index)
 
+    def is_entry(self, owner: int) -> bool:
+        """By its class it is read where its partition has the rows that are named of it."""
+        node = self.table_of
+        return node is not None and node.name in self.out.own and self.out.rows[owner] == node.rows
+
     def block(self, node: Node, vector: int) -> int | None:
         """Only the entry is read here."""
+        self.table_of = node
         address = self.loaded(node, HANDLERS + 4 * vector)
+        self.table_of = None
         is_there = address is not None and address % 4 == 0 and address % PAGE <= LAST_BLOCK \
             and not isinstance(self.reach(node, address, LOAD, True), Fault)
         return address if is_there else None
@@ -195,15 +263,11 @@ def learned(world: World, cpu: int, out: LeftOut, deeds: list[against.Deed], nam
             return ""
         if world.tree.children(node):
             return f"partition {node.name} has children"
-        if sum(row.rights & 3 == 3 for row in node.rows.values()) > 4:
-            return f"partition {node.name} has five pages to read and write, so it can create a partition"
     seen = seen_at(world, cpu, out, deeds)
     entries = [(node, word.word) for word in seen for node in world.tree.nodes.values()
                if node.name in out.own and HANDLERS // PAGE in node.rows and node.row(HANDLERS).page == word.page
                and word.word < NOWHERE]
-    for node, vector in entries:
-        out.see(world, node, vector)
-    if entries:
+    if any([learned_entry(world, node, vector, out) for node, vector in entries]):
         return ""
     if not seen:
         return "a word that is left out is read, and the reference doesn't find which"
@@ -211,6 +275,23 @@ def learned(world: World, cpu: int, out: LeftOut, deeds: list[against.Deed], nam
     who = "the root" if word.name == ROOT else f"partition {word.name}"
     name = names.nearest((word.page, word.word))
     return f"{who} reads word {word.word} of page {word.page}{name and f' ({name})'}: {word.by}"
+
+
+def learned_entry(world: World, node: Node, vector: int, out: LeftOut) -> bool:
+    """Whether something is learned of an entry that is read: its class is seen; by other rows, where they changed once;
+    or all of it, where they change again."""
+    if (node.name, vector) not in out.entries:
+        if (node.row(HANDLERS).page, vector) in out.seen:
+            return False
+        out.see(world, node, vector)
+    elif out.rows[node.name] == node.rows:
+        return False
+    elif node.name in out.changed:
+        out.see_words(world, node)
+    else:
+        out.keep(node)
+        out.changed.add(node.name)
+    return True
 
 
 def taken(search: Search, out: LeftOut) -> str:
@@ -231,9 +312,17 @@ def taken(search: Search, out: LeftOut) -> str:
 def programs_of(out: LeftOut) -> str:
     """Of which programs it is said."""
     own = sorted(out.own - {ROOT + 1})
-    entries = dict.fromkeys((index, frozenset(values)) for (_, index), values in sorted(out.seen.items()))
+    seen = dict.fromkeys((index, frozenset(values)) for (_, index), values in sorted(out.seen.items()))
+    blocks = sorted({word for (name, _), values in out.entries.items() for word in values
+                     if out.class_of(name, word) > 2})
+    parents = [name for name in own if sum(row.rights & 3 == 3 for row in out.rows.get(name, {}).values()) > 4]
     kept = [f"entry {index} of a handler table is {' or '.join(map('{:#010x}'.format, sorted(values)))}"
-            for index, values in entries]
+            for index, values in seen]
+    if out.entries:
+        kept.append("no block of theirs lies over an entry of a handler table"
+                    + (f", but at {' and '.join(map('{:#010x}'.format, blocks))}" if blocks else ""))
+    if parents:
+        kept.append(f"{listed(parents)} create{'s' * (len(parents) == 1)} no partition")
     return f"whatever the programs of {listed(own)} are, as long as " + "; ".join(
         [f"they write to pages {listed(sorted(out.pages))} alone", *kept])
 

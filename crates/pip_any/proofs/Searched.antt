@@ -2,7 +2,7 @@
 use Rattle.std.proofs.Common.{◌≡◌, ◌∙◌, ℕ, zero, suc, ◌<◌, ◌≤◌, List, [], ◌∷◌, Option, Some, None, length, sym, ap}
 use Rattle.std.proofs.Common.{Bool, arith, refl, slice_get, subst}
 use Rattle.std.specs.Prelude.{option_map, unwrap_or}
-use Rattle.pip_away.specs.Blind.{LeftOut, is_left_out}
+use Rattle.pip_away.specs.Blind.{LeftOut, is_left_out, kept_of, look_of, sight_in}
 use Rattle.pip_any.specs.Programs.{AreNamedTurns, EachTurn, HostileExits}
 use Rattle.pip_any.proofs.Beginning.{images_look_alike}
 use Rattle.pip_any.proofs.Naming.{confined_programs_are_named}
@@ -11,7 +11,8 @@ use Rattle.pip_model.specs.Images.{Image}
 use Rattle.pip_model.specs.Run.{image_world, steps}
 use Rattle.pip_model.specs.Worlds.{IsSoundWorld, World}
 use Rattle.pip_model.specs.declared.processors.Occupant.{Occupant}
-use Rattle.pip_guests.specs.Outside.{Alike, seen_but}
+use Rattle.pip_guests.specs.Outside.{Alike}
+use Rattle.pip_guests.proofs.Entries.{classes_are_sights}
 use Rattle.pip_base.specs.Memory.{Memory}
 use Rattle.pip_command_contracts.specs.EndsBy.{Response, plainly}
 use Rattle.pip_every.specs.Away.{IsAwaySaid}
@@ -19,8 +20,7 @@ use Rattle.pip_every.specs.Menus.{Menu, menu_model, name_on}
 use Rattle.pip_every.specs.Moments.{Moment}
 use Rattle.pip_any.specs.Passing.{HasPassed}
 use Rattle.pip_every.specs.declared.away.Away.TheVariants.{Yes}
-use Rattle.pip_any.specs.Tests.{IsPassed}
-use Rattle.pip_any.proofs.Testing.{states_pass, tests_pass}
+use Rattle.pip_any.proofs.Testing.{states_pass}
 use Rattle.pip_search.specs.Reached.{AreChoices, IsCovered}
 use Rattle.pip_search.specs.Summary.{IsAmong}
 use Rattle.pip_search.specs.Systems.{after_choices}
@@ -32,8 +32,7 @@ use Rattle.pip_search_commands.specs.SearchDues.{most_choices}
 use Rattle.pip_search_commands.specs.declared.start.Start.{Start}
 use Rattle.pip_search_commands.proofs.TextNames.{ends_away}
 use Rattle.pip_any.specs.AnyProgram.{AnyProgramFromStart, AnyProgramIsNamed, AwayTextsNamePrograms}
-use Rattle.pip_any.specs.AnyProgram.{PassedNamesAnyProgram, SearchPasses}
-use Rattle.pip_any.specs.AnyProgram.{TestedNamesAnyProgram}
+use Rattle.pip_any.specs.AnyProgram.{PassedNamesAnyProgram, SearchIsPassed}
 
 pub any_program_is_named : AnyProgramIsNamed
 any_program_is_named own look menu states from depth most start i j v s closed cpus away fits alike plans seed n are
@@ -89,20 +88,6 @@ module _ (menu : MenuSaid) (states from depth : ℕ) (most : Option ℕ) (start 
   sound : (cs : List ℕ) → AreChoices (menu_model s.first g) cs → IsSoundWorld (at cs)
   sound cs can = (stands cs can).stands.stands.sound
 
-pub tested_names_any_program : TestedNamesAnyProgram
-tested_names_any_program own blind menu states from depth most start i j v s closed cpus pass a plans seed n are exits
-    =
-    any_program_is_named own (seen_but blind) menu states from depth most start i j v s closed cpus
-    (λ cs c can lt. (passed cs c can lt).away)
-    (λ cs c p can named h. (passed cs c can (there menu states from depth most start i v s closed cs c p can
-    named)).confined p named h) a plans seed n are exits
-  where
-    passed : (cs : List ℕ) (c : ℕ) → AreChoices (menu_model s.first (image_menu i from menu.may)) cs → c < i.cpus
-        → IsPassed own blind (image_menu i from menu.may) (at menu states from depth most start i v s closed cs) c
-    passed cs c can less = tests_pass own blind (image_menu i from menu.may)
-        (at menu states from depth most start i v s closed cs) c
-        (sound menu states from depth most start i v s closed cs can) (pass cs c can less)
-
 pub passed_names_any_program : PassedNamesAnyProgram
 passed_names_any_program own look tests menu states from depth most start i j v s is closed cpus pass a plans seed n are
     exits =
@@ -125,7 +110,7 @@ closed_away first o g m (Within depth) h = absurd cc
 closed_away first o g m (Stopped depth) h = absurd cc
 
 all_away : (first : Memory) (o : LeftOut) (g : Menu) (m : Moment) (end : Extent) (depth : ℕ) → end ≡ Closed depth
-    → IsAwaySaid first o g m end Yes → SearchPasses o.own (is_left_out o) first g m
+    → IsAwaySaid first o g m end Yes → SearchIsPassed o.own (sight_in o) first g m
 all_away first o g m (Closed depth) d is h = h
 all_away first o g m (Within depth) d is h = absurd cc
 all_away first o g m (Stopped depth) d is h = absurd cc
@@ -140,6 +125,7 @@ away_texts_name_programs menu states from most start i j text s out ends cpus a 
     let h : IsAwaySaid s.first menu.out g m s.verdict Yes = rw (← same) holds
     in
     let (depth, closed) = closed_away s.first menu.out g m s.verdict h in
-    tested_names_any_program menu.out.own (is_left_out menu.out) menu states from depth most start i j
-    (plainly 0 text None) s closed cpus (all_away s.first menu.out g m s.verdict depth closed h) a plans seed n are
+    passed_names_any_program menu.out.own (look_of menu.out) (sight_in menu.out) menu states from depth most start i j
+    (plainly 0 text None) s (classes_are_sights menu.out.own (is_left_out menu.out) (kept_of menu.out)) closed cpus
+    (all_away s.first menu.out g m s.verdict depth closed h) a plans seed n are
     exits

@@ -11,12 +11,10 @@ use Rattle.pip_every.specs.declared.menus.Deed.TheVariants as D
 use Rattle.pip_every.specs.declared.menus.May.{May}
 use Rattle.pip_any.specs.Hostile.{DeedAnswers}
 use Rattle.pip_every.specs.Away as H
-use Rattle.pip_any.specs.Tests.{TestsPass}
 use Rattle.pip_any.specs.Passing as P
 use Rattle.pip_guests.specs.Sights.{IsSight, Sight}
 use Rattle.pip_guests.specs.Sights as S
-use Rattle.pip_guests.specs.Tests as T
-use Rattle.pip_guests.proofs.Testing.{all_read, both, confined, is_but, has_none_too, not_both, off, one, reads}
+use Rattle.pip_guests.proofs.Testing.{all_read, both, confined, not_both, off, one, reads}
 use Rattle.pip_model.specs.Acts.{events_made}
 use Rattle.pip_model.specs.Events as E
 use Rattle.pip_model.specs.Handlers.{is_reached}
@@ -27,7 +25,7 @@ use Rattle.pip_model.specs.Turn.{turn}
 use Rattle.pip_model.specs.Worlds.{IsSoundWorld, World, runs_on}
 use Rattle.pip_model.specs.declared.processors.Occupant.{Occupant}
 use Rattle.pip_guests.specs.Exits.{IsConfined}
-use Rattle.pip_guests.specs.Outside.{ReadsOutside, seen_but}
+use Rattle.pip_guests.specs.Outside.{ReadsOutside}
 use Rattle.pip_guests.specs.Unseen.{Answers}
 use Rattle.pip_any.proofs.Choosing.{nobody_hostile}
 
@@ -50,7 +48,7 @@ module _ (own : List ℕ) (look : ℕ → ℕ → ℕ → ℕ) (s : Sight) (is :
     answers (D.Trap v x y) e r k = cc
     answers (D.Call n args) e r k = cc
 
-    deeds : (ds : List May) → P.deeds_pass own s w cpu ds ≡ true → (r : Occupant) → runs_on w cpu ≡ Some r
+    deeds : (ds : List May) → H.deeds_pass own s w cpu ds ≡ true → (r : Occupant) → runs_on w cpu ≡ Some r
         → (place : ℕ) (d : May) → slice_get ds place ≡ Some d → is_its w.tree.root.name (name_on w cpu) d ≡ true
         → (DeedAnswers w cpu d.deed → ⊥) → ReadsOutside own look w (deed_event cpu d.deed)
     deeds [] e r k place d at its n = cc
@@ -72,7 +70,7 @@ module _ (own : List ℕ) (look : ℕ → ℕ → ℕ → ℕ) (s : Sight) (is :
   hostile = is_hostile w.tree.root.name (name_on w cpu) g.may
 
   hostile_passes : hostile ≡ true → (S.event_passes own s w (E.Poll cpu)
-      && ((not (H.is_vain (event w (E.Poll cpu)).outcome) || P.deeds_pass own s w cpu g.may)
+      && ((not (H.is_vain (event w (E.Poll cpu)).outcome) || H.deeds_pass own s w cpu g.may)
       && S.if_runs (runs_on w cpu) (S.has_no_child own w.tree))) ≡ true → P.HasPassed own look g w cpu
   hostile_passes q e = by (runs_on w cpu) refl
     where
@@ -113,32 +111,7 @@ pub states_pass : P.StatesPass
 states_pass own look s g w cpu is sound e = by (hostile own look s is g w cpu sound) refl e
   where
     by : (b : Bool) → hostile own look s is g w cpu sound ≡ b
-        → cond b (P.hostile_passes own s g.may w cpu) (S.events_pass own s w (events_made (turn w cpu 0))) ≡ true
+        → cond b (H.hostile_looks_away own s g.may w cpu) (S.events_pass own s w (events_made (turn w cpu 0))) ≡ true
         → P.HasPassed own look g w cpu
     by true q e = hostile_passes own look s is g w cpu sound q e
     by false q e = outside_passes own look s is g w cpu sound q e
-
--- words that are left out
-deeds_same : (own : List ℕ) (blind : ℕ → ℕ → Bool) (w : World) (cpu : ℕ) (ds : List May)
-    → P.deeds_pass own (T.but blind) w cpu ds ≡ H.deeds_read_outside own blind w cpu ds
-deeds_same own blind w cpu [] = refl
-deeds_same own blind w cpu (d ∷ ds) = rw (deeds_same own blind w cpu ds)
-
-pub tests_pass : TestsPass
-tests_pass own blind g w cpu sound e =
-    let p = states_pass own (seen_but blind) (T.but blind) g w cpu (is_but own blind) sound
-    (by (is_hostile w.tree.root.name (name_on w cpu) g.may) e) in
-    assumption
-  where
-    all : (a b c : Bool) → a ≡ true → b ≡ true → c ≡ true → (a && (b && c)) ≡ true
-    all a b c d e f = rw (d, e, f)
-
-    by : (b : Bool) → cond b (H.hostile_looks_away own blind g.may w cpu)
-        (T.all_read_outside own blind w (events_made (turn w cpu 0))) ≡ true
-        → cond b (P.hostile_passes own (T.but blind) g.may w cpu)
-        (S.events_pass own (T.but blind) w (events_made (turn w cpu 0))) ≡ true
-    by false e = e
-    by true e =
-        let a = both _ _ e in
-        let b = both _ _ a.1 in
-        all _ _ _ a.0 (rw (deeds_same own blind w cpu g.may, b.0)) (has_none_too own w.tree (runs_on w cpu) b.1)

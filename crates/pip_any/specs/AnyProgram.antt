@@ -1,18 +1,17 @@
 -- What a search of an image with a menu says of every program of its hostile partitions.
-use Rattle.std.specs.Prelude.{◌≡◌, ℕ, ◌<◌, Bool, true, List, Option, None, codes}
-use Rattle.pip_away.specs.Blind.{is_left_out, leaves_out}
+use Rattle.std.specs.Prelude.{◌≡◌, ℕ, ◌<◌, true, List, Option, None, codes}
+use Rattle.pip_away.specs.Blind.{leaves_out, look_of}
 use Rattle.pip_any.specs.Programs.{AreNamedTurns, EachTurn, HostileExits, SearchConfines, SearchLooksAway}
 use Rattle.pip_base.specs.Memory.{Memory}
 use Rattle.pip_base.specs.declared.types.Plan.{Plan}
 use Rattle.pip_every.specs.Menus.{Menu, menu_model}
 use Rattle.pip_every.specs.Moments.{Moment}
 use Rattle.pip_every.specs.Away.{looks_away}
-use Rattle.pip_any.specs.Passing.{passes}
 use Rattle.pip_command_contracts.specs.EndsBy.{Response, plainly}
 use Rattle.pip_command_contracts.specs.Planned.{lines_planned}
 use Rattle.pip_model.specs.Acts.{text_of}
 use Rattle.pip_model.specs.Images.{Image, image_word}
-use Rattle.pip_guests.specs.Outside.{Alike, seen_but}
+use Rattle.pip_guests.specs.Outside.{Alike}
 use Rattle.pip_guests.specs.Sights.{IsSight, Sight}
 use Rattle.pip_search.specs.Reached.{AreChoices}
 use Rattle.pip_search.specs.Systems.{after_choices}
@@ -53,30 +52,12 @@ AnyProgramFromStart = (own : List ℕ) (look : ℕ → ℕ → ℕ → ℕ) (men
     → AreNamedTurns s.found own look (begun_world j start) plans seed j.cpus n start.count
     (text_of (steps_from j start plans seed n))
 
--- a state of a search passes the test, on each processor
-abbrev pub SearchPasses : List ℕ → (ℕ → ℕ → Bool) → Memory → Menu → Moment → Type 0
-SearchPasses own blind first g m = (cs : List ℕ) (cpu : ℕ) → AreChoices (menu_model first g) cs → cpu < g.scope.cpus
-    → looks_away own blind g (after_choices (menu_model first g) m cs).world cpu ≡ true
-
--- so it is where each state of the search passes this test
-abbrev pub TestedNamesAnyProgram : Type 0
-TestedNamesAnyProgram = (own : List ℕ) (blind : ℕ → ℕ → Bool) (menu : MenuSaid) (states from depth : ℕ)
-    (most : Option ℕ) (start : Start) (i j : Image) (v : Response)
-    (s : IsSearchedAgainst menu states from most start i v) → s.verdict ≡ Closed depth → j.cpus ≡ i.cpus
-    → SearchPasses own blind s.first (image_menu i from menu.may) (begun_moment i start)
-    → Alike own (seen_but blind) (begun_world j start) (begun_world i start) → (plans : List Plan) (seed n : ℕ)
-    → ArePlansFrom (lines_planned i.plans) start.count from plans
-    → EachTurn (HostileExits own (seen_but blind) (image_menu i from menu.may)) (begun_world j start)
-    plans seed j.cpus n start.count
-    → AreNamedTurns s.found own (seen_but blind) (begun_world j start) plans seed j.cpus n start.count
-    (text_of (steps_from j start plans seed n))
-
--- a state of a search passes the tests of what is seen of words, on each processor
+-- a state of a search passes the test by what is seen of words, on each processor
 abbrev pub SearchIsPassed : List ℕ → Sight → Memory → Menu → Moment → Type 0
 SearchIsPassed own tests first g m = (cs : List ℕ) (cpu : ℕ) → AreChoices (menu_model first g) cs
-    → cpu < g.scope.cpus → passes own tests g (after_choices (menu_model first g) m cs).world cpu ≡ true
+    → cpu < g.scope.cpus → looks_away own tests g (after_choices (menu_model first g) m cs).world cpu ≡ true
 
--- so it is where each state of the search passes these
+-- so it is where each state of the search passes it
 abbrev pub PassedNamesAnyProgram : Type 0
 PassedNamesAnyProgram = (own : List ℕ) (look : ℕ → ℕ → ℕ → ℕ) (tests : Sight) (menu : MenuSaid)
     (states from depth : ℕ) (most : Option ℕ) (start : Start) (i j : Image) (v : Response)
@@ -94,9 +75,9 @@ abbrev pub AwayTextsNamePrograms : Type 0
 AwayTextsNamePrograms = (menu : MenuSaid) (states from : ℕ) (most : Option ℕ) (start : Start) (i j : Image)
     (text : List ℕ) (s : IsSearchedAgainst menu states from most start i (plainly 0 text None))
     → leaves_out menu.out ≡ true → EndsSo text (codes "away yes") → j.cpus ≡ i.cpus
-    → Alike menu.out.own (seen_but (is_left_out menu.out)) (begun_world j start) (begun_world i start)
+    → Alike menu.out.own (look_of menu.out) (begun_world j start) (begun_world i start)
     → (plans : List Plan) (seed n : ℕ) → ArePlansFrom (lines_planned i.plans) start.count from plans
-    → EachTurn (HostileExits menu.out.own (seen_but (is_left_out menu.out)) (image_menu i from menu.may))
+    → EachTurn (HostileExits menu.out.own (look_of menu.out) (image_menu i from menu.may))
     (begun_world j start) plans seed j.cpus n start.count
-    → AreNamedTurns s.found menu.out.own (seen_but (is_left_out menu.out)) (begun_world j start) plans seed j.cpus n
+    → AreNamedTurns s.found menu.out.own (look_of menu.out) (begun_world j start) plans seed j.cpus n
     start.count (text_of (steps_from j start plans seed n))

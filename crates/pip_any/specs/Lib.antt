@@ -2,5 +2,4 @@ pub mod Programs
 pub mod Begins
 pub mod AnyProgram
 pub mod Hostile
-pub mod Tests
 pub mod Passing

@@ -3,7 +3,7 @@
 #![tactic(auto)]
 
 ghost use Rattle.pip_any.specs.AnyProgram.{AnyProgramFromStart, AnyProgramIsNamed, AwayTextsNamePrograms};
-ghost use Rattle.pip_any.specs.AnyProgram.{PassedNamesAnyProgram, TestedNamesAnyProgram};
+ghost use Rattle.pip_any.specs.AnyProgram.{PassedNamesAnyProgram};
 ghost use Rattle.pip_any.specs.Begins.{ImagesLookAlike, StepsDependOnOutside};
 ghost use Rattle.pip_any.specs.Hostile.{CallsAreOnMenu, ConfinedKeepsToMenu, FetchFaultsAreOnMenu};
 ghost use Rattle.pip_any.specs.Hostile.{LoadFaultsAreOnMenu, MasksReadNone, StoreFaultsAreOnMenu, StoresAreOnMenu};
@@ -11,14 +11,12 @@ ghost use Rattle.pip_any.specs.Hostile.{TrapsAreOnMenu, TurnsHaveChoices, Untake
 ghost use Rattle.pip_any.specs.Hostile.{YieldsReadThree};
 ghost use Rattle.pip_any.specs.Passing.{StatesPass};
 ghost use Rattle.pip_any.specs.Programs.{ConfinedProgramsAreNamed, ProgramsAreNamed};
-ghost use Rattle.pip_any.specs.Tests.{TestsPass};
 
 /// Each turn of a world has a choice at a moment that looks like this world: it shows the same, or the turn stays
 /// inside a partition of the menu.
 pub fn law_hostile()
     ensures turns { TurnsHaveChoices }
     ensures confined { ConfinedKeepsToMenu }
-    ensures tested { TestsPass }
     ensures passed { StatesPass }
 {}
 
@@ -51,7 +49,6 @@ pub fn law_programs()
 pub fn law_any_program()
     ensures named { AnyProgramIsNamed }
     ensures from_start { AnyProgramFromStart }
-    ensures tested { TestedNamesAnyProgram }
     ensures text { AwayTextsNamePrograms }
     ensures passed { PassedNamesAnyProgram }
 {}

@@ -10,7 +10,8 @@ use Rattle.pip_model.proofs.Trees.Ancestors.{chain-node}
 use Rattle.pip_model.proofs.Trees.Depth.{depth, depth_few, depth_some, depth_up, few_nodes, own_parent}
 use Rattle.pip_model.proofs.Trees.Lookup.{found_name, other_in, other_name, root_or_other, root_up, up_found}
 use Rattle.pip_model.proofs.Trees.Walks.{root_line}
-use Rattle.pip_guests.specs.Tests as T
+use Rattle.pip_guests.specs.Sights.{Sight}
+use Rattle.pip_guests.specs.Sights as T
 use Rattle.pip_switch.specs.Plain.{plain_world}
 
 -- a chain begins with its node
@@ -25,10 +26,10 @@ chain_first t s a x found = elim (root_or_other t a x found) [
   | inr o ↦ (chain t x.up, ap (chain t) (sym (other_name t a x o)) ∙ chain-node t s x (other_in t a x o))
 ]
 
-module _ (own : List ℕ) (blind : ℕ → ℕ → Bool) (t : Tree) (s : IsSound t) (cs : List (Option Occupant)) (k part : ℕ)
+module _ (own : List ℕ) (sight : Sight) (t : Tree) (s : IsSound t) (cs : List (Option Occupant)) (k part : ℕ)
   where
     abbrev above : ℕ → Bool
-    above p = T.above_miss own blind (plain_world t cs) k (chain t p)
+    above p = T.above_pass own sight (plain_world t cs) k (chain t p)
 
     -- a number of steps up, and all that were passed miss
     pub record Ascent (at steps : ℕ) : Type 0 where
@@ -47,14 +48,14 @@ module _ (own : List ℕ) (blind : ℕ → ℕ → Bool) (t : Tree) (s : IsSound
           let root = own_parent t s at r.x r.x_is (sym up_is ∙ top) in
           let here : chain t at ≡ t.root ∷ [] =
           ap (chain t) (sym (found_name t at r.x r.x_is) ∙ ap (λ z. z.name) root) ∙ root_line t s in
-          sym (r.same ∙ ap (T.above_miss own blind (plain_world t cs) k) here)
+          sym (r.same ∙ ap (T.above_pass own sight (plain_world t cs) k) here)
 
       pub ascent_up : (q : Node) × (find_node t up ≡ Some q)
       ascent_up = let (q, q_is) = up_found t s at r.x r.x_is in (q, ap (find_node t) up_is ∙ q_is)
 
       module _ (moved : up ≢ at) where
         -- the next is looked at, and then those above it
-        next : above at ≡ ((has (running (plain_world t cs)) up || T.handler_misses own blind t up k) && above up)
+        next : above at ≡ ((has (running (plain_world t cs)) up || T.handler_passes own sight t up k) && above up)
         next = elim (root_or_other t at r.x r.x_is) [
           | inl root ↦ absurd (moved (up_is ∙ ap (λ z. z.up) root ∙ root_up t s ∙ sym (ap (λ z. z.name) root)
               ∙ found_name t at r.x r.x_is))
@@ -63,14 +64,14 @@ module _ (own : List ℕ) (blind : ℕ → ℕ → Bool) (t : Tree) (s : IsSound
               let (qs, chain_is) = chain_first t s up q found in
               let here : chain t at ≡ r.x ∷ q ∷ qs = ap (chain t) (sym (other_name t at r.x o))
               ∙ chain-node t s r.x (other_in t at r.x o) ∙ ap (λ c. r.x ∷ c) (ap (chain t) (sym up_is) ∙ chain_is) in
-              ap (T.above_miss own blind (plain_world t cs) k) here
-              ∙ ap (λ n. (has (running (plain_world t cs)) n || T.handler_misses own blind t n k)
-              && T.handlers_miss own blind (plain_world t cs) k qs) (found_name t up q found)
-              ∙ ap (λ c. (has (running (plain_world t cs)) up || T.handler_misses own blind t up k)
-              && T.above_miss own blind (plain_world t cs) k c) (sym chain_is)
+              ap (T.above_pass own sight (plain_world t cs) k) here
+              ∙ ap (λ n. (has (running (plain_world t cs)) n || T.handler_passes own sight t n k)
+              && T.handlers_pass own sight (plain_world t cs) k qs) (found_name t up q found)
+              ∙ ap (λ c. (has (running (plain_world t cs)) up || T.handler_passes own sight t up k)
+              && T.above_pass own sight (plain_world t cs) k c) (sym chain_is)
         ]
 
-        pub ascent_on : true ≡ (has (running (plain_world t cs)) up || T.handler_misses own blind t up k)
+        pub ascent_on : true ≡ (has (running (plain_world t cs)) up || T.handler_passes own sight t up k)
             → Ascent up (steps + 1)
         ascent_on passed = elim (root_or_other t at r.x r.x_is) [
           | inl root ↦ absurd (moved (up_is ∙ ap (λ z. z.up) root ∙ root_up t s ∙ sym (ap (λ z. z.name) root)
@@ -88,7 +89,7 @@ module _ (own : List ℕ) (blind : ℕ → ℕ → Bool) (t : Tree) (s : IsSound
               }
         ]
 
-        pub ascent_met : false ≡ (has (running (plain_world t cs)) up || T.handler_misses own blind t up k)
+        pub ascent_met : false ≡ (has (running (plain_world t cs)) up || T.handler_passes own sight t up k)
             → false ≡ above part
         ascent_met met = sym (r.same ∙ next ∙ ap (λ b. b && above up) (sym met))
 

@@ -24,7 +24,8 @@ use Rattle.pip_model.proofs.Trees.Numbers.{page_small}
 use Rattle.pip_model.specs.Lists.{In, has}
 use Rattle.pip_model.proofs.Trees.Children.{child_back}
 use Rattle.pip_model.proofs.Trees.Lookup.{found_in, node_is}
-use Rattle.pip_guests.specs.Tests as T
+use Rattle.pip_guests.specs.Sights.{Sight}
+use Rattle.pip_guests.specs.Sights as T
 use Rattle.pip_switch.proofs.Targets.{child_target, target_stands}
 
 -- ---- chains
@@ -104,31 +105,31 @@ module _ (t : Tree) (s : IsSound t) (p va : ℕ) (x : Node) (found : find_node t
         no_word None e = refl
         no_word (Some w) e = cc
 
-chain_on : (blind : ℕ → ℕ → Bool) (t : Tree) (p a i : ℕ) → i < 3
-    → T.chain_misses blind t p (3 - i) a
-    ≡ (not (blind (page_of t p a) 0) && T.chain_misses blind t p (3 - (i + 1)) (next_in_chain t p a))
-chain_on blind t p a i low =
-    let n : 3 - i ≡ suc (3 - (i + 1)) = omega arith in ap (λ k. T.chain_misses blind t p k a) n
+chain_on : (sight : Sight) (t : Tree) (p a i : ℕ) → i < 3
+    → T.chain_passes sight t p (3 - i) a
+    ≡ (sight.seen (page_of t p a) 0 && T.chain_passes sight t p (3 - (i + 1)) (next_in_chain t p a))
+chain_on sight t p a i low =
+    let n : 3 - i ≡ suc (3 - (i + 1)) = omega arith in ap (λ k. T.chain_passes sight t p k a) n
 
-module _ (blind : ℕ → ℕ → Bool) (t : Tree) (p first a i g : ℕ)
-    (before : T.chain_misses blind t p 3 first ≡ T.chain_misses blind t p (3 - i) a) (low : i < 3)
+module _ (sight : Sight) (t : Tree) (p first a i g : ℕ)
+    (before : T.chain_passes sight t p 3 first ≡ T.chain_passes sight t p (3 - i) a) (low : i < 3)
     (is : g ≡ page_of t p a) where
-  chain_next : T.chain_misses blind t p 3 first
-      ≡ (not (blind g 0) && T.chain_misses blind t p (3 - (i + 1)) (next_in_chain t p a))
-  chain_next = before ∙ chain_on blind t p a i low
-      ∙ ap (λ n. not (blind n 0) && T.chain_misses blind t p (3 - (i + 1)) (next_in_chain t p a)) (sym is)
+  chain_next : T.chain_passes sight t p 3 first
+      ≡ (sight.seen g 0 && T.chain_passes sight t p (3 - (i + 1)) (next_in_chain t p a))
+  chain_next = before ∙ chain_on sight t p a i low
+      ∙ ap (λ n. sight.seen n 0 && T.chain_passes sight t p (3 - (i + 1)) (next_in_chain t p a)) (sym is)
 
-  pub chain_met : blind g 0 ≡ true → false ≡ T.chain_misses blind t p 3 first
+  pub chain_met : sight.seen g 0 ≡ false → false ≡ T.chain_passes sight t p 3 first
   unfolding chain_next
   chain_met e = sym (chain_next
-      ∙ ap (λ b. not b && T.chain_misses blind t p (3 - (i + 1)) (next_in_chain t p a)) e)
+      ∙ ap (λ b. b && T.chain_passes sight t p (3 - (i + 1)) (next_in_chain t p a)) e)
 
-  pub chain_passed : blind g 0 ≡ false → (n : ℕ) → n ≡ next_in_chain t p a
-      → T.chain_misses blind t p 3 first ≡ T.chain_misses blind t p (3 - (i + 1)) n
+  pub chain_passed : sight.seen g 0 ≡ true → (n : ℕ) → n ≡ next_in_chain t p a
+      → T.chain_passes sight t p 3 first ≡ T.chain_passes sight t p (3 - (i + 1)) n
   unfolding chain_next
   chain_passed e n same = chain_next
-      ∙ ap (λ b. not b && T.chain_misses blind t p (3 - (i + 1)) (next_in_chain t p a)) e
-      ∙ ap (T.chain_misses blind t p (3 - (i + 1))) (sym same)
+      ∙ ap (λ b. b && T.chain_passes sight t p (3 - (i + 1)) (next_in_chain t p a)) e
+      ∙ ap (T.chain_passes sight t p (3 - (i + 1))) (sym same)
 
 -- ---- yields
 
@@ -150,17 +151,17 @@ pub target_here : (m : Memory) (p d : ℕ) (k : HasPartition m p) (o : Option �
 target_here m p d k None e = tt
 target_here m p d k (Some to) e = target_stands m p d to k e
 
-pub target_none : (own : List ℕ) (blind : ℕ → ℕ → Bool) (t : Tree) (k : ℕ) (o : Option Node)
-    → None ≡ option_map (λ (y : Node). y.name) o → T.target_misses own blind t k o ≡ true
-target_none own blind t k None e = refl
-target_none own blind t k (Some y) e = cc
+pub target_none : (own : List ℕ) (sight : Sight) (t : Tree) (k : ℕ) (o : Option Node)
+    → None ≡ option_map (λ (y : Node). y.name) o → T.target_passes own sight t k o ≡ true
+target_none own sight t k None e = refl
+target_none own sight t k (Some y) e = cc
 
-pub target_some : (own : List ℕ) (blind : ℕ → ℕ → Bool) (t : Tree) (k to : ℕ) (o : Option Node)
+pub target_some : (own : List ℕ) (sight : Sight) (t : Tree) (k to : ℕ) (o : Option Node)
     → Some to ≡ option_map (λ (y : Node). y.name) o
-    → T.target_misses own blind t k o ≡ T.handler_misses own blind t to k
-target_some own blind t k to None e = cc
-target_some own blind t k to (Some y) e = let n : to ≡ y.name = cc in
-    ap (λ z. T.handler_misses own blind t z k) (sym n)
+    → T.target_passes own sight t k o ≡ T.handler_passes own sight t to k
+target_some own sight t k to None e = cc
+target_some own sight t k to (Some y) e = let n : to ≡ y.name = cc in
+    ap (λ z. T.handler_passes own sight t z k) (sym n)
 
 pub saved_never : (n : ℕ) (b : Bool) → 256 ≤ n → (not (nat_lt n 256) || b) ≡ true
 saved_never n b high = ap (λ c. not c || b) (le-ltb n 256 high)
@@ -170,18 +171,18 @@ saved_maybe n b low = ap (λ c. not c || b) (lt-ltb n 256 low)
 
 -- ---- calls
 
-pub other_call : (own : List ℕ) (blind : ℕ → ℕ → Bool) (t : Tree) (p : ℕ) (a : Five) (n : ℕ) → n ≢ 3 → n ≢ 8
-    → true ≡ T.call_misses own blind t p a (call_named n)
-other_call own blind t p a zero x y = refl
-other_call own blind t p a (suc zero) x y = refl
-other_call own blind t p a (suc (suc zero)) x y = refl
-other_call own blind t p a (suc (suc (suc zero))) x y = absurd (x refl)
-other_call own blind t p a (suc (suc (suc (suc zero)))) x y = refl
-other_call own blind t p a (suc (suc (suc (suc (suc zero))))) x y = refl
-other_call own blind t p a (suc (suc (suc (suc (suc (suc zero)))))) x y = refl
-other_call own blind t p a (suc (suc (suc (suc (suc (suc (suc zero))))))) x y = refl
-other_call own blind t p a (suc (suc (suc (suc (suc (suc (suc (suc zero)))))))) x y = absurd (y refl)
-other_call own blind t p a (suc (suc (suc (suc (suc (suc (suc (suc (suc zero))))))))) x y = refl
-other_call own blind t p a (suc (suc (suc (suc (suc (suc (suc (suc (suc (suc zero)))))))))) x y = refl
-other_call own blind t p a (suc (suc (suc (suc (suc (suc (suc (suc (suc (suc (suc zero))))))))))) x y = refl
-other_call own blind t p a (suc (suc (suc (suc (suc (suc (suc (suc (suc (suc (suc (suc n)))))))))))) x y = refl
+pub other_call : (own : List ℕ) (sight : Sight) (t : Tree) (p : ℕ) (a : Five) (n : ℕ) → n ≢ 3 → n ≢ 8
+    → true ≡ T.call_passes own sight t p a (call_named n)
+other_call own sight t p a zero x y = refl
+other_call own sight t p a (suc zero) x y = refl
+other_call own sight t p a (suc (suc zero)) x y = refl
+other_call own sight t p a (suc (suc (suc zero))) x y = absurd (x refl)
+other_call own sight t p a (suc (suc (suc (suc zero)))) x y = refl
+other_call own sight t p a (suc (suc (suc (suc (suc zero))))) x y = refl
+other_call own sight t p a (suc (suc (suc (suc (suc (suc zero)))))) x y = refl
+other_call own sight t p a (suc (suc (suc (suc (suc (suc (suc zero))))))) x y = refl
+other_call own sight t p a (suc (suc (suc (suc (suc (suc (suc (suc zero)))))))) x y = absurd (y refl)
+other_call own sight t p a (suc (suc (suc (suc (suc (suc (suc (suc (suc zero))))))))) x y = refl
+other_call own sight t p a (suc (suc (suc (suc (suc (suc (suc (suc (suc (suc zero)))))))))) x y = refl
+other_call own sight t p a (suc (suc (suc (suc (suc (suc (suc (suc (suc (suc (suc zero))))))))))) x y = refl
+other_call own sight t p a (suc (suc (suc (suc (suc (suc (suc (suc (suc (suc (suc (suc n)))))))))))) x y = refl

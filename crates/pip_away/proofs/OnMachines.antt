@@ -13,6 +13,7 @@ use Rattle.pip_model.specs.Handlers.{is_reached}
 use Rattle.pip_mmu.specs.Answers.{place_answer}
 use Rattle.pip_mmu.specs.declared.faults.AccessFault.{AccessFault}
 use Rattle.pip_base.specs.declared.types.Access.TheVariants.{Fetch}
+use Rattle.pip_base.specs.declared.types.Size.{Size}
 use Rattle.pip_base.specs.declared.types.Size.TheVariants.{Word}
 use Rattle.pip_model.specs.Tree.{Node, Tree, chain, children, find_node}
 use Rattle.pip_model.specs.Worlds.{IsSoundWorld, World, running, runs_on}
@@ -20,19 +21,18 @@ use Rattle.pip_model.specs.declared.processors.Occupant.{Occupant}
 use Rattle.pip_model.proofs.Events.Soundness.{runs_named}
 use Rattle.pip_model.proofs.Trees.Ancestry.{root_is_one}
 use Rattle.pip_model.proofs.Trees.Lookup.{name_found, root_found}
-use Rattle.pip_guests.specs.Exits.{writable_rows}
-use Rattle.pip_guests.specs.Tests as T
+use Rattle.pip_guests.specs.Sights.{Sight}
+use Rattle.pip_guests.specs.Sights as T
 use Rattle.pip_switch.specs.Plain.{plain_world}
 use Rattle.pip_switch.specs.Standing.{StandsAs, State}
 
 -- a partition by its name is confined
 abbrev pub confined_by : List ℕ → Tree → ℕ → Bool
-confined_by own t p = has own p && (not (p == t.root.name)
-    && (nat_lt (length (children t p)) 1 && nat_lt (length (writable_rows t p)) 5))
+confined_by own t p = has own p && (not (p == t.root.name) && nat_lt (length (children t p)) 1)
 
 module _ (own : List ℕ) (t : Tree) (p : ℕ) where
   abbrev no_exits : Bool
-  no_exits = nat_lt (length (children t p)) 1 && nat_lt (length (writable_rows t p)) 5
+  no_exits = nat_lt (length (children t p)) 1
 
   pub other_confined : has own p ≡ false → false ≡ confined_by own t p
   other_confined e = sym (ap (λ b. b && (not (p == t.root.name) && no_exits)) e)
@@ -66,7 +66,7 @@ pub pc_nowhere : (w : World) (cpu : ℕ) (r : Occupant) → runs_on w cpu ≡ So
 pc_nowhere w cpu r on e = let bad : ◌≡◌ {A = Option Ctx} None (Some r.ctx) = e ∙ ap (option_map (λ r. r.ctx)) on in cc
 
 pub none_runs : (o : Option Occupant) → option_map (λ r. r.name) o ≡ None → (f : Occupant → Bool)
-    → true ≡ T.if_one_runs o f
+    → true ≡ T.if_runs o f
 none_runs None e f = refl
 none_runs (Some r) e f = cc
 
@@ -106,56 +106,56 @@ module _ (p : State) (w : World) (s : StandsAs p w) (m : Memory) (same : m ≡ p
 
     -- and a test of what runs is one of the partition
     pub test_here : (f : Occupant → Bool) (g : ℕ → Bool) → ((r : Occupant) → f r ≡ g r.name) → (b : Bool)
-        → b ≡ g part → b ≡ T.if_one_runs (runs_on w cpu) f
+        → b ≡ g part → b ≡ T.if_runs (runs_on w cpu) f
     test_here f g same b e =
         let (r, on, name) = some_runs (runs_on w cpu) part runs in
-        e ∙ ap g (sym name) ∙ sym (same r) ∙ sym (ap (λ o. T.if_one_runs o f) on)
+        e ∙ ap g (sym name) ∙ sym (same r) ∙ sym (ap (λ o. T.if_runs o f) on)
 
     -- nor one that asks more of it
     pub run_here : (f : Occupant → Bool) (b : Bool)
-        → ((r : Occupant) → runs_on w cpu ≡ Some r → r.name ≡ part → b ≡ f r) → b ≡ T.if_one_runs (runs_on w cpu) f
+        → ((r : Occupant) → runs_on w cpu ≡ Some r → r.name ≡ part → b ≡ f r) → b ≡ T.if_runs (runs_on w cpu) f
     run_here f b h =
         let (r, on, name) = some_runs (runs_on w cpu) part runs in
-        h r on name ∙ sym (ap (λ o. T.if_one_runs o f) on)
+        h r on name ∙ sym (ap (λ o. T.if_runs o f) on)
 
 -- ---- caches don't matter
 
-module _ (own : List ℕ) (blind : ℕ → ℕ → Bool) (w : World) where
-  handlers_same : (k : ℕ) (qs : List Node) → T.handlers_miss own blind (plain_world w.tree w.cpus) k qs
-      ≡ T.handlers_miss own blind w k qs
+module _ (own : List ℕ) (sight : Sight) (w : World) where
+  handlers_same : (k : ℕ) (qs : List Node) → T.handlers_pass own sight (plain_world w.tree w.cpus) k qs
+      ≡ T.handlers_pass own sight w k qs
   handlers_same k [] = refl
   handlers_same k (q ∷ qs) =
-      ap (λ b. (has (running w) q.name || T.handler_misses own blind w.tree q.name k) && b) (handlers_same k qs)
+      ap (λ b. (has (running w) q.name || T.handler_passes own sight w.tree q.name k) && b) (handlers_same k qs)
 
-  above_same : (k : ℕ) (qs : List Node) → T.above_miss own blind (plain_world w.tree w.cpus) k qs
-      ≡ T.above_miss own blind w k qs
+  above_same : (k : ℕ) (qs : List Node) → T.above_pass own sight (plain_world w.tree w.cpus) k qs
+      ≡ T.above_pass own sight w k qs
   above_same k [] = refl
   above_same k (q ∷ qs) = handlers_same k qs
 
   module _ (cs : List (Option Occupant)) (same : cs ≡ w.cpus) (p : ℕ) where
-    pub delivery_same : (k : ℕ) → T.delivery_misses own blind (plain_world w.tree cs) p k
-        ≡ T.delivery_misses own blind w p k
-    delivery_same k = ap (λ c. T.delivery_misses own blind (plain_world w.tree c) p k) same
-        ∙ ap (λ b. b && T.save_misses own blind w.tree p 63) (above_same k (chain w.tree p))
+    pub delivery_same : (k : ℕ) → T.delivery_passes own sight (plain_world w.tree cs) p k
+        ≡ T.delivery_passes own sight w p k
+    delivery_same k = ap (λ c. T.delivery_passes own sight (plain_world w.tree c) p k) same
+        ∙ ap (λ b. b && T.save_passes own sight w.tree p 63) (above_same k (chain w.tree p))
 
-    pub load_same : (q : Reached) → T.load_misses own blind (plain_world w.tree cs) p q
-        ≡ T.load_misses own blind w p q
+    pub load_same : (q : Reached) → T.load_passes own sight (plain_world w.tree cs) p q
+        ≡ T.load_passes own sight w p q
     load_same (Place g i) = refl
     load_same (Faulted f) = delivery_same (fault_vector f)
 
-    pub store_same : (q : Reached) → T.store_misses own blind (plain_world w.tree cs) p q
-        ≡ T.store_misses own blind w p q
-    store_same (Place g i) = refl
-    store_same (Faulted f) = delivery_same (fault_vector f)
+    pub store_same : (z : Size) (q : Reached) → T.store_passes own sight (plain_world w.tree cs) p z q
+        ≡ T.store_passes own sight w p z q
+    store_same z (Place g i) = refl
+    store_same z (Faulted f) = delivery_same (fault_vector f)
 
     -- a fetch, by the partition and its pc
     pub fetched_by : (pc : ℕ) (r : Occupant) → r.name ≡ p → pc ≡ r.ctx.pc → has own p ≡ false → (b : Bool)
-        → b ≡ T.load_misses own blind (plain_world w.tree cs) p (reach w.tree p pc Fetch Word)
-        → b ≡ (not (has own r.name) && T.load_misses own blind w r.name (reach w.tree r.name r.ctx.pc Fetch Word))
+        → b ≡ T.load_passes own sight (plain_world w.tree cs) p (reach w.tree p pc Fetch Word)
+        → b ≡ (not (has own r.name) && T.load_passes own sight w r.name (reach w.tree r.name r.ctx.pc Fetch Word))
     fetched_by pc r name at off b is = is ∙ load_same (reach w.tree p pc Fetch Word)
-        ∙ ap (λ n. T.load_misses own blind w n (reach w.tree n pc Fetch Word)) (sym name)
-        ∙ ap (λ k. T.load_misses own blind w r.name (reach w.tree r.name k Fetch Word)) at
-        ∙ sym (ap (λ c. not c && T.load_misses own blind w r.name (reach w.tree r.name r.ctx.pc Fetch Word))
+        ∙ ap (λ n. T.load_passes own sight w n (reach w.tree n pc Fetch Word)) (sym name)
+        ∙ ap (λ k. T.load_passes own sight w r.name (reach w.tree r.name k Fetch Word)) at
+        ∙ sym (ap (λ c. not c && T.load_passes own sight w r.name (reach w.tree r.name r.ctx.pc Fetch Word))
         (ap (has own) name ∙ off))
 
 pub place_reached : (q : Reached) (y : ℕ × ℕ) → Ok y ≡ place_answer q → true ≡ is_reached q

@@ -1,8 +1,8 @@
 -- Accesses, entries of handler tables and blocks, as the code reads them.
 use Rattle.std.proofs.Common.{◌≡◌, ℕ, suc, ◌+◌, ◌*◌, ◌%◌, ◌<◌, ◌≤◌, ◌==◌, ◌&&◌, ◌||◌, not, cond, Bool, true}
 use Rattle.std.proofs.Common.{false, refl, sym, ap, ◌∙◌, arith, eqb-true, Option, Some, None}
-use Rattle.std.proofs.Common.{List}
-use Rattle.std.specs.Prelude.{◌-◌, Ok, Err, Result}
+use Rattle.std.proofs.Common.{List, [], ◌∷◌, zero, drop, length}
+use Rattle.std.specs.Prelude.{◌-◌, Ok, Err, Result, slice_get}
 use Rattle.pip_base.specs.Memory.{Memory, word_at}
 use Rattle.pip_base.specs.declared.types.Access.{Access}
 use Rattle.pip_base.specs.declared.types.Access.TheVariants.{Load, Store}
@@ -27,7 +27,8 @@ use Rattle.pip_model.proofs.Frames.Stored.{reached_frame, reached_word}
 use Rattle.pip_model.proofs.OnLists.Members.{find_in}
 use Rattle.pip_model.proofs.Trees.Numbers.{at_small, reached_small}
 use Rattle.pip_guests.specs.Outside.{block_place, entry_place}
-use Rattle.pip_guests.specs.Tests as T
+use Rattle.pip_guests.specs.Sights.{Sight}
+use Rattle.pip_guests.specs.Sights as T
 use Rattle.pip_switch.proofs.Blocking.{stores_load}
 use Rattle.pip_away.specs.Blind.{can_begin, table_word}
 use Rattle.pip_away.specs.declared.handlers.TableWord.{TableWord}
@@ -121,115 +122,128 @@ late_entry t p k x s found late = sym (ap (λ o.
 
 -- ---- blocks
 
-module _ (blind : ℕ → ℕ → Bool) (t : Tree) (p a : ℕ) where
+module _ (sight : Sight) (t : Tree) (p a : ℕ) where
   -- a block by the place that its address reaches
-  pub block_missed : T.block_misses blind (block_place t p (block_at t p (Some a)))
-      ≡ cond (can_begin a) (T.block_misses blind (reach t p a Load Word)) true
+  pub block_missed : T.block_passes sight (block_place t p (block_at t p (Some a)))
+      ≡ cond (can_begin a) (T.block_passes sight (reach t p a Load Word)) true
   block_missed = go (can_begin a) (reach t p a Load Word) refl
     where
       go : (c : Bool) (q : Reached) → reach t p a Load Word ≡ q
-          → T.block_misses blind (block_place t p (cond (c && is_reached q) (Some a) None))
-          ≡ cond c (T.block_misses blind q) true
+          → T.block_passes sight (block_place t p (cond (c && is_reached q) (Some a) None))
+          ≡ cond c (T.block_passes sight q) true
       go false q e = refl
-      go true (Place g i) e = ap (T.block_misses blind) e
+      go true (Place g i) e = ap (T.block_passes sight) e
       go true (Faulted f) e = refl
 
   -- and where it is saved
-  pub save_landed : IsSound t → T.lands blind (store_at t p (block_at t p (Some a)))
-      ≡ cond (can_begin a) (T.lands blind (reach t p a Store Word)) true
+  pub save_landed : IsSound t → T.block_blind sight (store_at t p (block_at t p (Some a)))
+      ≡ cond (can_begin a) (T.block_blind sight (reach t p a Store Word)) true
   save_landed s = go (can_begin a) (reach t p a Load Word) (reach t p a Store Word) refl refl
     where
       go : (c : Bool) (q r : Reached) → reach t p a Load Word ≡ q → reach t p a Store Word ≡ r
-          → T.lands blind (store_at t p (cond (c && is_reached q) (Some a) None)) ≡ cond c (T.lands blind r) true
+          → T.block_blind sight (store_at t p (cond (c && is_reached q) (Some a) None)) ≡ cond c (T.block_blind sight
+          r) true
       go false q r e d = refl
-      go true (Place g i) r e d = ap (T.lands blind) d
+      go true (Place g i) r e d = ap (T.block_blind sight) d
       go true (Faulted f) (Faulted h) e d = refl
       go true (Faulted f) (Place g i) e d =
           let bad = sym e ∙ stores_load t p a g i (s.readable (node t p) (node_in t p)) d in cc
 
-  pub unreached_misses : (q : Reached) (f : AccessFault) → Err f ≡ place_answer q → true ≡ T.block_misses blind q
+  pub unreached_misses : (q : Reached) (f : AccessFault) → Err f ≡ place_answer q → true ≡ T.block_passes sight q
   unreached_misses (Place g i) f e = cc
   unreached_misses (Faulted h) f e = refl
 
-  pub unreached_lands : (q : Reached) (f : AccessFault) → Err f ≡ place_answer q → true ≡ T.lands blind q
+  pub unreached_lands : (q : Reached) (f : AccessFault) → Err f ≡ place_answer q → true ≡ T.block_blind sight q
   unreached_lands (Place g i) f e = cc
   unreached_lands (Faulted h) f e = refl
 
+-- the rest of a list from an element on
+pub drop_at : {A : Type 0} (xs : List A) (k : ℕ) (x : A) → slice_get xs k ≡ Some x → drop k xs ≡ x ∷ drop (k + 1) xs
+drop_at [] k x e = cc
+drop_at (y ∷ ys) zero x e = let same : y ≡ x = cc in rw same
+drop_at (y ∷ ys) (suc k) x e = let n : suc k + 1 ≡ suc (k + 1) = omega arith in cc (drop_at ys k x e)
+
+pub drop_all : {A : Type 0} (xs : List A) (k : ℕ) → length xs ≤ k → drop k xs ≡ []
+drop_all [] zero l = refl
+drop_all [] (suc k) l = refl
+drop_all (x ∷ xs) zero l = absurd (omega arith)
+drop_all (x ∷ xs) (suc k) l = drop_all xs k (omega arith)
+
 -- words one after another
 pub all_later : (f : ℕ → Bool) (i j : ℕ) → j < 17
-    → T.all_from f (17 - j) (i + j) ≡ (f (i + j) && T.all_from f (17 - (j + 1)) (i + (j + 1)))
+    → T.each_from f (17 - j) (i + j) ≡ (f (i + j) && T.each_from f (17 - (j + 1)) (i + (j + 1)))
 all_later f i j low =
     let n : 17 - j ≡ suc (17 - (j + 1)) = omega arith in
     let k : i + j + 1 ≡ i + (j + 1) = omega arith in
-    ap (λ z. T.all_from f z (i + j)) n ∙ ap (λ z. f (i + j) && T.all_from f (17 - (j + 1)) z) k
+    ap (λ z. T.each_from f z (i + j)) n ∙ ap (λ z. f (i + j) && T.each_from f (17 - (j + 1)) z) k
 
 -- ---- handlers and saves
 
-module _ (own : List ℕ) (blind : ℕ → ℕ → Bool) (t : Tree) (p k : ℕ) where
+module _ (own : List ℕ) (sight : Sight) (t : Tree) (p k : ℕ) where
   -- by what the entry is
   abbrev handler_by : Option TableWord → Bool
   handler_by None = true
-  handler_by (Some e) = not (blind e.page e.index)
-      && (has own p || T.block_misses blind (block_place t p (block_at t p (Some e.word))))
+  handler_by (Some e) = sight.entry t p e.page e.index
+      && (has own p || T.block_passes sight (block_place t p (block_at t p (Some e.word))))
 
   abbrev save_by : Option TableWord → Bool
   save_by None = true
-  save_by (Some e) = not (blind e.page e.index)
-      && (not (has own p) || T.lands blind (store_at t p (block_at t p (Some e.word))))
+  save_by (Some e) = sight.entry t p e.page e.index
+      && (not (has own p) || T.block_blind sight (store_at t p (block_at t p (Some e.word))))
 
   or_true : (b : Bool) → (b || true) ≡ true
   or_true true = refl
   or_true false = refl
 
   pub handler_is : (o : Option TableWord) → o ≡ table_word t (entry_place t p k)
-      → T.handler_misses own blind t p k ≡ handler_by o
+      → T.handler_passes own sight t p k ≡ handler_by o
   handler_is o e = go (entry_place t p k) refl ∙ ap handler_by (sym e)
     where
-      go : (q : Reached) → entry_place t p k ≡ q → T.handler_misses own blind t p k ≡ handler_by (table_word t q)
-      go (Place g i) d = ap (λ q. T.misses blind q && (has own p || T.block_misses blind (block_place t p
+      go : (q : Reached) → entry_place t p k ≡ q → T.handler_passes own sight t p k ≡ handler_by (table_word t q)
+      go (Place g i) d = ap (λ q. T.entry_passes sight t p q && (has own p || T.block_passes sight (block_place t p
           (block_at t p (word_reached t q))))) d
-      go (Faulted f) d = ap (λ q. T.misses blind q && (has own p || T.block_misses blind (block_place t p
+      go (Faulted f) d = ap (λ q. T.entry_passes sight t p q && (has own p || T.block_passes sight (block_place t p
           (block_at t p (word_reached t q))))) d ∙ or_true (has own p)
 
   pub save_is : (o : Option TableWord) → o ≡ table_word t (entry_place t p k)
-      → T.save_misses own blind t p k ≡ save_by o
+      → T.save_passes own sight t p k ≡ save_by o
   save_is o e = go (entry_place t p k) refl ∙ ap save_by (sym e)
     where
-      go : (q : Reached) → entry_place t p k ≡ q → T.save_misses own blind t p k ≡ save_by (table_word t q)
-      go (Place g i) d = ap (λ q. T.misses blind q && (not (has own p) || T.lands blind (store_at t p
+      go : (q : Reached) → entry_place t p k ≡ q → T.save_passes own sight t p k ≡ save_by (table_word t q)
+      go (Place g i) d = ap (λ q. T.entry_passes sight t p q && (not (has own p) || T.block_blind sight (store_at t p
           (block_at t p (word_reached t q))))) d
-      go (Faulted f) d = ap (λ q. T.misses blind q && (not (has own p) || T.lands blind (store_at t p
+      go (Faulted f) d = ap (λ q. T.entry_passes sight t p q && (not (has own p) || T.block_blind sight (store_at t p
           (block_at t p (word_reached t q))))) d ∙ or_true (not (has own p))
 
-module _ (own : List ℕ) (blind : ℕ → ℕ → Bool) (t : Tree) (p k : ℕ) (e : TableWord)
+module _ (own : List ℕ) (sight : Sight) (t : Tree) (p k : ℕ) (e : TableWord)
     (is : Some e ≡ table_word t (entry_place t p k)) where
   abbrev block_part : Bool
-  block_part = T.block_misses blind (block_place t p (block_at t p (Some e.word)))
+  block_part = T.block_passes sight (block_place t p (block_at t p (Some e.word)))
 
   abbrev save_part : Bool
-  save_part = T.lands blind (store_at t p (block_at t p (Some e.word)))
+  save_part = T.block_blind sight (store_at t p (block_at t p (Some e.word)))
 
-  pub handler_left : blind e.page e.index ≡ true → false ≡ T.handler_misses own blind t p k
-  handler_left h = sym (handler_is own blind t p k (Some e) is ∙ ap (λ b. not b && (has own p || block_part)) h)
+  pub handler_left : sight.entry t p e.page e.index ≡ false → false ≡ T.handler_passes own sight t p k
+  handler_left h = sym (handler_is own sight t p k (Some e) is ∙ ap (λ b. b && (has own p || block_part)) h)
 
-  pub handler_own : blind e.page e.index ≡ false → has own p ≡ true → true ≡ T.handler_misses own blind t p k
-  handler_own h o = sym (handler_is own blind t p k (Some e) is ∙ ap (λ b. not b && (has own p || block_part)) h
+  pub handler_own : sight.entry t p e.page e.index ≡ true → has own p ≡ true → true ≡ T.handler_passes own sight t p k
+  handler_own h o = sym (handler_is own sight t p k (Some e) is ∙ ap (λ b. b && (has own p || block_part)) h
       ∙ ap (λ b. b || block_part) o)
 
-  pub handler_block : blind e.page e.index ≡ false → has own p ≡ false
-      → block_part ≡ T.handler_misses own blind t p k
-  handler_block h o = sym (handler_is own blind t p k (Some e) is ∙ ap (λ b. not b && (has own p || block_part)) h
+  pub handler_block : sight.entry t p e.page e.index ≡ true → has own p ≡ false
+      → block_part ≡ T.handler_passes own sight t p k
+  handler_block h o = sym (handler_is own sight t p k (Some e) is ∙ ap (λ b. b && (has own p || block_part)) h
       ∙ ap (λ b. b || block_part) o)
 
-  pub save_left : blind e.page e.index ≡ true → false ≡ T.save_misses own blind t p k
-  save_left h = sym (save_is own blind t p k (Some e) is ∙ ap (λ b. not b && (not (has own p) || save_part)) h)
+  pub save_left : sight.entry t p e.page e.index ≡ false → false ≡ T.save_passes own sight t p k
+  save_left h = sym (save_is own sight t p k (Some e) is ∙ ap (λ b. b && (not (has own p) || save_part)) h)
 
-  pub save_other : blind e.page e.index ≡ false → has own p ≡ false → true ≡ T.save_misses own blind t p k
-  save_other h o = sym (save_is own blind t p k (Some e) is ∙ ap (λ b. not b && (not (has own p) || save_part)) h
+  pub save_other : sight.entry t p e.page e.index ≡ true → has own p ≡ false → true ≡ T.save_passes own sight t p k
+  save_other h o = sym (save_is own sight t p k (Some e) is ∙ ap (λ b. b && (not (has own p) || save_part)) h
       ∙ ap (λ b. not b || save_part) o)
 
-  pub save_block : blind e.page e.index ≡ false → has own p ≡ true → save_part ≡ T.save_misses own blind t p k
-  save_block h o = sym (save_is own blind t p k (Some e) is ∙ ap (λ b. not b && (not (has own p) || save_part)) h
+  pub save_block : sight.entry t p e.page e.index ≡ true → has own p ≡ true → save_part ≡ T.save_passes own sight t p k
+  save_block h o = sym (save_is own sight t p k (Some e) is ∙ ap (λ b. b && (not (has own p) || save_part)) h
       ∙ ap (λ b. not b || save_part) o)
 
 -- ---- faults

@@ -5,8 +5,8 @@ ghost use Rattle.pip_model.specs.Happens.{call_named};
 ghost use Rattle.pip_model.specs.Partitions.{HasPartition, InEach};
 ghost use Rattle.pip_model.specs.Prepare.{next_in_chain};
 ghost use Rattle.pip_model.specs.Switching.{target_node};
-ghost use Rattle.pip_guests.specs.Tests as tests;
-ghost use Rattle.pip_away.specs.Blind.{blind_of};
+ghost use Rattle.pip_guests.specs.Sights as tests;
+ghost use Rattle.pip_away.specs.Blind.{sight_of};
 
 use crate::blind::Blind;
 use crate::handlers::{handler_misses, save_misses};
@@ -48,12 +48,12 @@ fn chain_misses<M: Frames, L: Ledger>(
 ) -> bool
     requires { HasPartition (M.memory mem.now) part }
     ensures { InEach (M.memory mem.now) part
-        (λ t x. result ≡ tests.chain_misses (blind_of blind.now) t part 3 first) }
+        (λ t x. result ≡ tests.chain_passes (sight_of blind.now) t part 3 first) }
 {
     let mut at = first;
     for _i in 0..3u32 {
         let link = link_at(mem, part, at, steps);
-        if blind.has(link.0, 0) {
+        if !blind.sees(link.0, 0) {
             return false;
         }
         at = link.1;
@@ -96,8 +96,8 @@ fn target_misses<M: Frames, L: Ledger>(
     steps: &mut Steps<L>,
 ) -> bool
     requires { HasPartition (M.memory mem.now) caller }
-    ensures { InEach (M.memory mem.now) caller (λ t x. result ≡ tests.target_misses blind.now.own.items
-        (blind_of blind.now) t vector (target_node t caller d)) }
+    ensures { InEach (M.memory mem.now) caller (λ t x. result ≡ tests.target_passes blind.now.own.items
+        (sight_of blind.now) t vector (target_node t caller d)) }
 {
     match find_target(mem, caller, d, steps) {
         None => true,
@@ -116,7 +116,7 @@ fn yield_misses<M: Frames, L: Ledger>(
 ) -> bool
     requires { HasPartition (M.memory mem.now) caller }
     ensures { InEach (M.memory mem.now) caller (λ t x. result
-        ≡ tests.yield_misses blind.now.own.items (blind_of blind.now) t caller (five_of args.now)) }
+        ≡ tests.yield_passes blind.now.own.items (sight_of blind.now) t caller (five_of args.now)) }
 {
     let [d, vector, save, _, _] = *args;
     if !target_misses(mem, blind, caller, d, vector, steps) {
@@ -135,8 +135,8 @@ pub(crate) fn call_misses<M: Frames, L: Ledger>(
     steps: &mut Steps<L>,
 ) -> bool
     requires { HasPartition (M.memory mem.now) caller }
-    ensures { InEach (M.memory mem.now) caller (λ t x. result ≡ tests.call_misses blind.now.own.items
-        (blind_of blind.now) t caller (five_of args.now) (call_named number)) }
+    ensures { InEach (M.memory mem.now) caller (λ t x. result ≡ tests.call_passes blind.now.own.items
+        (sight_of blind.now) t caller (five_of args.now) (call_named number)) }
 {
     match number {
         PREPARE => chain_misses(mem, blind, caller, args[2], steps),

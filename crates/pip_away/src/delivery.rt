@@ -8,14 +8,14 @@ ghost use Rattle.pip_model.specs.Reach.{Reached};
 ghost use Rattle.pip_model.specs.Tree.{chain};
 ghost use Rattle.pip_mmu.specs.Answers.{place_answer};
 ghost use Rattle.pip_mmu.specs.Faults.{model_fault};
-ghost use Rattle.pip_guests.specs.Tests as tests;
+ghost use Rattle.pip_guests.specs.Sights as tests;
 ghost use Rattle.pip_switch.specs.Occupied.{names_on, runs_name};
 ghost use Rattle.pip_switch.specs.Plain.{plain_world};
-ghost use Rattle.pip_away.specs.Blind.{blind_of};
+ghost use Rattle.pip_away.specs.Blind.{sight_of};
 
 use crate::blind::Blind;
 use crate::handlers::{handler_misses, save_misses};
-use pip_base::{Frame, Steps, never};
+use pip_base::{Frame, Size, Steps, never};
 use pip_frames::Frames;
 use pip_kern::parent_of;
 use pip_mmu::AccessFault;
@@ -51,7 +51,7 @@ fn is_passed<M: Frames, L: Ledger>(
 ) -> bool
     requires { HasPartition (M.memory mem.now) part }
     ensures { InEach (M.memory mem.now) part (λ t x. result ≡ (has (names_on cpus.now) part
-        || tests.handler_misses blind.now.own.items (blind_of blind.now) t part vector)) }
+        || tests.handler_passes blind.now.own.items (sight_of blind.now) t part vector)) }
 {
     is_running(cpus, part) || handler_misses(mem, blind, part, vector, steps)
 }
@@ -66,8 +66,8 @@ fn above_miss<M: Frames, L: Ledger>(
     steps: &mut Steps<L>,
 ) -> bool
     requires { HasPartition (M.memory mem.now) part }
-    ensures { InEach (M.memory mem.now) part (λ t x. result ≡ tests.above_miss blind.now.own.items
-        (blind_of blind.now) (plain_world t cpus.now) vector (chain t part)) }
+    ensures { InEach (M.memory mem.now) part (λ t x. result ≡ tests.above_pass blind.now.own.items
+        (sight_of blind.now) (plain_world t cpus.now) vector (chain t part)) }
 {
     let mut at = part;
     for _i in 0..mem.count() {
@@ -94,8 +94,8 @@ pub(crate) fn delivery_misses<M: Frames, L: Ledger>(
     steps: &mut Steps<L>,
 ) -> bool
     requires { HasPartition (M.memory mem.now) part }
-    ensures { InEach (M.memory mem.now) part (λ t x. result ≡ tests.delivery_misses blind.now.own.items
-        (blind_of blind.now) (plain_world t cpus.now) part vector) }
+    ensures { InEach (M.memory mem.now) part (λ t x. result ≡ tests.delivery_passes blind.now.own.items
+        (sight_of blind.now) (plain_world t cpus.now) part vector) }
 {
     above_miss(mem, cpus, blind, part, vector, steps) && save_misses(mem, blind, part, SAVED, steps)
 }
@@ -121,29 +121,30 @@ pub(crate) fn read_misses<M: Frames, L: Ledger>(
 ) -> bool
     requires { HasPartition (M.memory mem.now) part }
     ensures { InEach (M.memory mem.now) part (λ t x. (q : Reached) → found ≡ place_answer q → result
-        ≡ tests.load_misses blind.now.own.items (blind_of blind.now) (plain_world t cpus.now) part q) }
+        ≡ tests.load_passes blind.now.own.items (sight_of blind.now) (plain_world t cpus.now) part q) }
 {
     match found {
-        Ok(place) => !blind.has(place.0, place.1),
+        Ok(place) => blind.sees(place.0, place.1),
         Err(fault) => delivery_misses(mem, cpus, blind, part, vector_of(fault), steps),
     }
 }
 
-/// Whether a store that leads there, or faults, reads none.
+/// Whether a store that leads there, or faults, reads none. A byte leaves the others of an entry.
 pub(crate) fn write_misses<M: Frames, L: Ledger>(
     mem: &M,
     cpus: &[Option<Occupant>],
     blind: &Blind,
     part: Frame,
+    size: Size,
     found: Result<(Frame, u32), AccessFault>,
     steps: &mut Steps<L>,
 ) -> bool
     requires { HasPartition (M.memory mem.now) part }
     ensures { InEach (M.memory mem.now) part (λ t x. (q : Reached) → found ≡ place_answer q → result
-        ≡ tests.store_misses blind.now.own.items (blind_of blind.now) (plain_world t cpus.now) part q) }
+        ≡ tests.store_passes blind.now.own.items (sight_of blind.now) (plain_world t cpus.now) part size q) }
 {
     match found {
-        Ok(_) => true,
+        Ok(place) => blind.stores(place.0, place.1, size),
         Err(fault) => delivery_misses(mem, cpus, blind, part, vector_of(fault), steps),
     }
 }

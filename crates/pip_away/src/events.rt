@@ -6,9 +6,9 @@ ghost use Rattle.pip_model.specs.Worlds.{World, runs_on};
 ghost use Rattle.pip_model.specs.declared.processors.Occupant.{Occupant};
 ghost use Rattle.pip_model.specs.Handlers.{is_reached};
 ghost use Rattle.pip_model.specs.Reach.{reach};
-ghost use Rattle.pip_guests.specs.Tests.{if_one_runs, reads_outside};
+ghost use Rattle.pip_guests.specs.Sights.{event_passes, if_runs};
 ghost use Rattle.pip_switch.specs.Standing.{StandsAs};
-ghost use Rattle.pip_away.specs.Blind.{blind_of};
+ghost use Rattle.pip_away.specs.Blind.{sight_of};
 
 use crate::blind::Blind;
 use crate::calls::call_misses;
@@ -35,7 +35,7 @@ pub fn load_looks_away<M: Frames, L: Ledger>(
     requires cpu { cpu < length machine.now.cpus }
     requires stands { (w : World) × StandsAs machine.now w }
     ensures { (w : World) → StandsAs machine.now w → result
-        ≡ reads_outside blind.now.own.items (blind_of blind.now) w (E.Load cpu va size) }
+        ≡ event_passes blind.now.own.items (sight_of blind.now) w (E.Load cpu va size) }
 {
     match machine.runs(cpu) {
         None => true,
@@ -58,7 +58,7 @@ pub fn load_answers<M: Frames, L: Ledger>(
     requires cpu { cpu < length machine.now.cpus }
     requires stands { (w : World) × StandsAs machine.now w }
     ensures { (w : World) → StandsAs machine.now w → result
-        ≡ if_one_runs (runs_on w cpu) (λ r. is_reached (reach w.tree r.name va Access.Load size)) }
+        ≡ if_runs (runs_on w cpu) (λ r. is_reached (reach w.tree r.name va Access.Load size)) }
 {
     match machine.runs(cpu) {
         None => true,
@@ -69,7 +69,7 @@ pub fn load_answers<M: Frames, L: Ledger>(
     }
 }
 
-/// Whether a store of it reads none, where it faults.
+/// Whether a store of it reads none, where it faults, and stores no byte to an entry whose class is seen.
 pub fn store_looks_away<M: Frames, L: Ledger>(
     machine: &Machine<M>,
     blind: &Blind,
@@ -81,14 +81,14 @@ pub fn store_looks_away<M: Frames, L: Ledger>(
     requires cpu { cpu < length machine.now.cpus }
     requires stands { (w : World) × StandsAs machine.now w }
     ensures { (w : World) (word : ℕ) → StandsAs machine.now w → result
-        ≡ reads_outside blind.now.own.items (blind_of blind.now) w (E.Store cpu va size word) }
+        ≡ event_passes blind.now.own.items (sight_of blind.now) w (E.Store cpu va size word) }
 {
     match machine.runs(cpu) {
         None => true,
         Some(part) => {
             let mem = machine.mem();
             let found = locate(mem, part, va, size, Access::Store, steps);
-            write_misses(mem, machine.processors(), blind, part, found, steps)
+            write_misses(mem, machine.processors(), blind, part, size, found, steps)
         }
     }
 }
@@ -114,7 +114,7 @@ pub fn fetch_looks_away<M: Frames, L: Ledger>(
     requires cpu { cpu < length machine.now.cpus }
     requires stands { (w : World) × StandsAs machine.now w }
     ensures { (w : World) → StandsAs machine.now w → result
-        ≡ reads_outside blind.now.own.items (blind_of blind.now) w (E.Fetch cpu) }
+        ≡ event_passes blind.now.own.items (sight_of blind.now) w (E.Fetch cpu) }
 {
     let Some(part) = machine.runs(cpu) else {
         return true;
@@ -139,7 +139,7 @@ pub fn trap_looks_away<M: Frames, L: Ledger>(
     requires cpu { cpu < length machine.now.cpus }
     requires stands { (w : World) × StandsAs machine.now w }
     ensures { (w : World) (a b : ℕ) → StandsAs machine.now w → result
-        ≡ reads_outside blind.now.own.items (blind_of blind.now) w (E.Trap cpu vector a b) }
+        ≡ event_passes blind.now.own.items (sight_of blind.now) w (E.Trap cpu vector a b) }
 {
     match machine.runs(cpu) {
         None => true,
@@ -166,7 +166,7 @@ pub fn call_looks_away<M: Frames, L: Ledger>(
     requires cpu { cpu < length machine.now.cpus }
     requires stands { (w : World) × StandsAs machine.now w }
     ensures { (w : World) → StandsAs machine.now w → result
-        ≡ reads_outside blind.now.own.items (blind_of blind.now) w (E.Call cpu number (five_of args.now)) }
+        ≡ event_passes blind.now.own.items (sight_of blind.now) w (E.Call cpu number (five_of args.now)) }
 {
     match machine.runs(cpu) {
         None => true,
@@ -184,7 +184,7 @@ pub fn poll_looks_away<M: Frames, L: Ledger>(
     requires cpu { cpu < length machine.now.cpus }
     requires stands { (w : World) × StandsAs machine.now w }
     ensures { (w : World) → StandsAs machine.now w → result
-        ≡ reads_outside blind.now.own.items (blind_of blind.now) w (E.Poll cpu) }
+        ≡ event_passes blind.now.own.items (sight_of blind.now) w (E.Poll cpu) }
 {
     if !lines_miss(machine.mem(), blind, steps) {
         return false;

@@ -1,14 +1,15 @@
 //! Handlers, and where contexts are saved.
 ghost use Rattle.std.specs.Prelude.{◌≡◌, ◌<◌, ◌&&◌, ◌||◌, Some};
-ghost use Rattle.pip_guests.specs.Tests as tests;
+ghost use Rattle.pip_guests.specs.Sights as tests;
 ghost use Rattle.pip_model.specs.Handlers.{block_at, store_at};
 ghost use Rattle.pip_model.specs.Partitions.{HasPartition, InEach};
 ghost use Rattle.pip_guests.specs.Outside.{block_place, entry_place};
 ghost use Rattle.pip_away.specs.Blind as defined;
-ghost use Rattle.pip_away.specs.Blind.{blind_of};
+ghost use Rattle.pip_away.specs.Blind.{sight_of};
 
 use crate::blind::Blind;
 use crate::places::locate;
+use crate::rows::has_rows;
 use pip_base::{Access, Frame, Size, Steps};
 use pip_frames::Frames;
 use std::sync::ledger::Ledger;
@@ -62,7 +63,26 @@ fn can_begin(address: u32) -> bool
     address % 4 == 0 && address % 4096 <= LAST_BLOCK
 }
 
-// Whether no word of a partition's block at an address is left out.
+// Whether all of an entry that a partition reads is seen; or its class, if the partition is one of these and has the
+// rows by which it is one.
+fn entry_fits<M: Frames, L: Ledger>(
+    mem: &M,
+    blind: &Blind,
+    part: Frame,
+    entry: &TableWord,
+    steps: &mut Steps<L>,
+) -> bool
+    requires { HasPartition (M.memory mem.now) part }
+    ensures { InEach (M.memory mem.now) part (λ t x. result
+        ≡ (sight_of blind.now).entry t part entry.now.page entry.now.index) }
+{
+    match blind.entry_owner(entry.page, entry.index) {
+        None => !blind.is_blind(entry.page, entry.index),
+        Some(owner) => blind.is_own(part) && has_rows(mem, &blind.rows, part, owner, steps),
+    }
+}
+
+// Whether all of each word of a partition's block at an address is seen.
 fn block_misses<M: Frames, L: Ledger>(
     mem: &M,
     blind: &Blind,
@@ -72,14 +92,14 @@ fn block_misses<M: Frames, L: Ledger>(
 ) -> bool
     requires { HasPartition (M.memory mem.now) part }
     ensures { InEach (M.memory mem.now) part (λ t x. result
-        ≡ tests.block_misses (blind_of blind.now) (block_place t part (block_at t part (Some address)))) }
+        ≡ tests.block_passes (sight_of blind.now) (block_place t part (block_at t part (Some address)))) }
 {
     if !can_begin(address) {
         return true;
     }
     match locate(mem, part, address, Size::Word, Access::Load, steps) {
         Err(_) => true,
-        Ok(found) => blind.misses_block(found.0, found.1),
+        Ok(found) => blind.sees_block(found.0, found.1),
     }
 }
 
@@ -93,7 +113,7 @@ fn save_lands<M: Frames, L: Ledger>(
 ) -> bool
     requires { HasPartition (M.memory mem.now) part }
     ensures { InEach (M.memory mem.now) part (λ t x. result
-        ≡ tests.lands (blind_of blind.now) (store_at t part (block_at t part (Some address)))) }
+        ≡ tests.block_blind (sight_of blind.now) (store_at t part (block_at t part (Some address)))) }
 {
     if !can_begin(address) {
         return true;
@@ -104,7 +124,7 @@ fn save_lands<M: Frames, L: Ledger>(
     }
 }
 
-/// Whether a partition's entry for a vector isn't left out, nor its block, unless the partition is one of these.
+/// Whether a partition's entry for a vector is seen, or its class, and its block, unless the partition is one of these.
 pub(crate) fn handler_misses<M: Frames, L: Ledger>(
     mem: &M,
     blind: &Blind,
@@ -114,7 +134,7 @@ pub(crate) fn handler_misses<M: Frames, L: Ledger>(
 ) -> bool
     requires { HasPartition (M.memory mem.now) part }
     ensures { InEach (M.memory mem.now) part (λ t x. result
-        ≡ tests.handler_misses blind.now.own.items (blind_of blind.now) t part vector) }
+        ≡ tests.handler_passes blind.now.own.items (sight_of blind.now) t part vector) }
 {
     if vector >= 1024 {
         return true;
@@ -122,7 +142,7 @@ pub(crate) fn handler_misses<M: Frames, L: Ledger>(
     match table_word(mem, part, vector, steps) {
         None => true,
         Some(entry) => {
-            if blind.has(entry.page, entry.index) {
+            if !entry_fits(mem, blind, part, &entry, steps) {
                 return false;
             }
             blind.is_own(part) || block_misses(mem, blind, part, entry.word, steps)
@@ -130,8 +150,8 @@ pub(crate) fn handler_misses<M: Frames, L: Ledger>(
     }
 }
 
-/// Whether a partition's entry for a vector isn't left out, and whether it is saved in words that are, if it is one of
-/// these.
+/// Whether a partition's entry for a vector is seen, or its class, and whether it is saved in words that are left out,
+/// if it is one of these.
 pub(crate) fn save_misses<M: Frames, L: Ledger>(
     mem: &M,
     blind: &Blind,
@@ -142,12 +162,12 @@ pub(crate) fn save_misses<M: Frames, L: Ledger>(
     requires stands { HasPartition (M.memory mem.now) part }
     requires vector { vector < 1024 }
     ensures { InEach (M.memory mem.now) part (λ t x. result
-        ≡ tests.save_misses blind.now.own.items (blind_of blind.now) t part vector) }
+        ≡ tests.save_passes blind.now.own.items (sight_of blind.now) t part vector) }
 {
     match table_word(mem, part, vector, steps) {
         None => true,
         Some(entry) => {
-            if blind.has(entry.page, entry.index) {
+            if !entry_fits(mem, blind, part, &entry, steps) {
                 return false;
             }
             !blind.is_own(part) || save_lands(mem, blind, part, entry.word, steps)

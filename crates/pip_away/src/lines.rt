@@ -5,9 +5,9 @@ ghost use Rattle.pip_model.specs.Lists.{has};
 ghost use Rattle.pip_model.specs.Partitions.{HasPartition};
 ghost use Rattle.pip_model.specs.Sound.{AreLines, IsSound};
 ghost use Rattle.pip_model.specs.Tree.{Tree};
-ghost use Rattle.pip_guests.specs.Tests as tests;
+ghost use Rattle.pip_guests.specs.Sights as tests;
 ghost use Rattle.pip_switch.specs.Pending.{line_bits};
-ghost use Rattle.pip_away.specs.Blind.{blind_of};
+ghost use Rattle.pip_away.specs.Blind.{sight_of};
 
 use crate::blind::Blind;
 use crate::handlers::handler_misses;
@@ -37,7 +37,7 @@ fn line_misses<M: Frames, L: Ledger>(
     requires line { line < 16 }
     ensures { (t : Tree) (js : List ℕ) → IsSound t → LaysOut t (M.memory mem.now) → AreLines 0 js →
         bits ≡ line_bits js → result ≡ (not (has js line)
-        || tests.handler_misses blind.now.own.items (blind_of blind.now) t t.root.name (32 + line)) }
+        || tests.handler_passes blind.now.own.items (sight_of blind.now) t t.root.name (32 + line)) }
 {
     !is_pending(bits, line) || handler_misses(mem, blind, Frame::new(ROOT), 32 + line, steps)
 }
@@ -46,7 +46,7 @@ fn line_misses<M: Frames, L: Ledger>(
 pub(crate) fn lines_miss<M: Frames, L: Ledger>(mem: &M, blind: &Blind, steps: &mut Steps<L>) -> bool
     requires { HasPartition (M.memory mem.now) 1 }
     ensures { (t : Tree) → IsSound t → LaysOut t (M.memory mem.now) →
-        result ≡ tests.lines_miss blind.now.own.items (blind_of blind.now) t t.root.pending }
+        result ≡ tests.lines_pass blind.now.own.items (sight_of blind.now) t t.root.pending }
 {
     let bits = pending(mem, steps);
     for line in 0..LINES {

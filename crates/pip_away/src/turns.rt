@@ -8,9 +8,9 @@ ghost use Rattle.pip_model.specs.Events as E;
 ghost use Rattle.pip_model.specs.Happens.{event};
 ghost use Rattle.pip_model.specs.Turn.{arguments, effect_acts, fetch_acts, turn, word_acts};
 ghost use Rattle.pip_model.specs.Worlds.{World, ctx_on, runs_on};
-ghost use Rattle.pip_guests.specs.Tests.{all_read_outside, reads_outside};
+ghost use Rattle.pip_guests.specs.Sights.{event_passes, events_pass};
 ghost use Rattle.pip_switch.specs.Standing.{StandsAs};
-ghost use Rattle.pip_away.specs.Blind.{blind_of};
+ghost use Rattle.pip_away.specs.Blind.{sight_of};
 
 use crate::blind::Blind;
 use crate::events::{
@@ -46,8 +46,8 @@ fn interrupt_looks_away<M: Frames, L: Ledger>(
 ) -> bool
     requires cpu { cpu < length machine.old.cpus }
     requires stands { (w : World) × StandsAs machine.old w }
-    ensures away { (w : World) → StandsAs machine.old w → result ≡ reads_outside blind.now.own.items
-        (blind_of blind.now) (event w (E.SetContext cpu (at_next ctx.now))).world (E.Trap cpu vector 0 0) }
+    ensures away { (w : World) → StandsAs machine.old w → result ≡ event_passes blind.now.own.items
+        (sight_of blind.now) (event w (E.SetContext cpu (at_next ctx.now))).world (E.Trap cpu vector 0 0) }
     ensures count { length machine.new.cpus ≡ length machine.old.cpus }
 {
     machine.set_ctx(cpu, &next_of(ctx));
@@ -73,8 +73,8 @@ fn called_looks_away<M: Frames, L: Ledger>(
 ) -> bool
     requires cpu { cpu < length machine.old.cpus }
     requires stands { (w : World) × StandsAs machine.old w }
-    ensures away { (w : World) → StandsAs machine.old w → result ≡ reads_outside blind.now.own.items
-        (blind_of blind.now) (event w (E.SetContext cpu (at_next ctx.now))).world
+    ensures away { (w : World) → StandsAs machine.old w → result ≡ event_passes blind.now.own.items
+        (sight_of blind.now) (event w (E.SetContext cpu (at_next ctx.now))).world
         (E.Call cpu number (arguments ctx.now)) }
     ensures count { length machine.new.cpus ≡ length machine.old.cpus }
 {
@@ -95,8 +95,8 @@ fn effect_looks_away<M: Frames, L: Ledger>(
     requires stands { (w : World) × StandsAs machine.old w }
     requires effect { IsEffect effect.now }
     requires ctx { (w : World) → StandsAs machine.old w → ctx_on w cpu ≡ ctx.now }
-    ensures away { (w : World) → StandsAs machine.old w → result ≡ all_read_outside blind.now.own.items
-        (blind_of blind.now) w (events_made (effect_acts w 0 cpu (ctx_on w cpu) effect.now)) }
+    ensures away { (w : World) → StandsAs machine.old w → result ≡ events_pass blind.now.own.items
+        (sight_of blind.now) w (events_made (effect_acts w 0 cpu (ctx_on w cpu) effect.now)) }
     ensures count { length machine.new.cpus ≡ length machine.old.cpus }
 {
     match effect {
@@ -136,8 +136,8 @@ fn word_looks_away<M: Frames, L: Ledger>(
 ) -> bool
     requires cpu { cpu < length machine.old.cpus }
     requires stands { (w : World) × StandsAs machine.old w }
-    ensures away { (w : World) → StandsAs machine.old w → result ≡ all_read_outside blind.now.own.items
-        (blind_of blind.now) w (events_made (word_acts w 0 cpu word (runs_on w cpu))) }
+    ensures away { (w : World) → StandsAs machine.old w → result ≡ events_pass blind.now.own.items
+        (sight_of blind.now) w (events_made (word_acts w 0 cpu word (runs_on w cpu))) }
     ensures count { length machine.new.cpus ≡ length machine.old.cpus }
 {
     match machine.ctx(cpu) {
@@ -159,8 +159,8 @@ fn instruction_looks_away<M: Frames, L: Ledger>(
 ) -> bool
     requires cpu { cpu < length machine.old.cpus }
     requires stands { (w : World) × StandsAs machine.old w }
-    ensures away { (w : World) → StandsAs machine.old w → result ≡ all_read_outside blind.now.own.items
-        (blind_of blind.now) w (events_made (fetch_acts w 0 cpu)) }
+    ensures away { (w : World) → StandsAs machine.old w → result ≡ events_pass blind.now.own.items
+        (sight_of blind.now) w (events_made (fetch_acts w 0 cpu)) }
     ensures count { length machine.new.cpus ≡ length machine.old.cpus }
 {
     if !fetch_looks_away(machine, blind, cpu, steps) {
@@ -181,8 +181,8 @@ pub fn turn_looks_away<M: Frames, L: Ledger>(
 ) -> bool
     requires cpu { cpu < length machine.old.cpus }
     requires stands { (w : World) × StandsAs machine.old w }
-    ensures away { (w : World) → StandsAs machine.old w → result ≡ all_read_outside blind.now.own.items
-        (blind_of blind.now) w (events_made (turn w cpu 0)) }
+    ensures away { (w : World) → StandsAs machine.old w → result ≡ events_pass blind.now.own.items
+        (sight_of blind.now) w (events_made (turn w cpu 0)) }
     ensures count { length machine.new.cpus ≡ length machine.old.cpus }
 {
     if !poll_looks_away(machine, blind, cpu, steps) {

@@ -14,9 +14,10 @@ use Rattle.pip_model.specs.Events as E
 use Rattle.pip_model.specs.Happens.{event}
 use Rattle.pip_model.specs.Worlds.{World, runs_on}
 use Rattle.pip_model.proofs.Trees.Ancestry.{root_is_one}
-use Rattle.pip_guests.specs.Tests.{if_one_runs, is_confined, reads_outside}
+use Rattle.pip_guests.specs.Sights.{Sight, event_passes, has_no_child, if_runs}
+use Rattle.pip_away.proofs.Reading.{drop_at}
 use Rattle.pip_switch.specs.Standing.{StandsAs, State}
-use Rattle.pip_every.specs.Away.{deed_answers, deeds_read_outside, hostile_looks_away, is_vain}
+use Rattle.pip_every.specs.Away.{deed_answers, deeds_pass, hostile_looks_away, is_vain}
 
 module _ (p : State) (w : World) (s : StandsAs p w) (cpu : ℕ) where
   -- a line of a menu is of what runs there
@@ -29,46 +30,33 @@ module _ (p : State) (w : World) (s : StandsAs p w) (cpu : ℕ) where
   hostile_here ds o is b e = rw (e, is, ← root_is_one w.tree s.bare.sound.tree)
 
 -- a deed is a load that is answered, or reads no word that is left out
-abbrev pub deed_is : List ℕ → (ℕ → ℕ → Bool) → World → ℕ → Deed → Bool
-deed_is own blind w cpu d = deed_answers w cpu d || reads_outside own blind w (deed_event cpu d)
+abbrev pub deed_is : List ℕ → Sight → World → ℕ → Deed → Bool
+deed_is own sight w cpu d = deed_answers w cpu d || event_passes own sight w (deed_event cpu d)
 
-module _ (own : List ℕ) (blind : ℕ → ℕ → Bool) (w : World) (cpu : ℕ) (d : Deed) (va : ℕ) (z : Size)
+module _ (own : List ℕ) (sight : Sight) (w : World) (cpu : ℕ) (d : Deed) (va : ℕ) (z : Size)
     (is : d ≡ D.Load va z) (b : Bool) (e : b ≡ deed_answers w cpu (D.Load va z)) where
-  pub load_answered : b ≡ true → b ≡ deed_is own blind w cpu d
+  pub load_answered : b ≡ true → b ≡ deed_is own sight w cpu d
   load_answered on = cc
 
-  pub load_faults : b ≡ false → reads_outside own blind w (E.Load cpu va z) ≡ deed_is own blind w cpu d
+  pub load_faults : b ≡ false → event_passes own sight w (E.Load cpu va z) ≡ deed_is own sight w cpu d
   load_faults off = cc
 
--- the rest of a list from an element on
-drop_at : {A : Type 0} (xs : List A) (k : ℕ) (x : A) → slice_get xs k ≡ Some x → drop k xs ≡ x ∷ drop (k + 1) xs
-drop_at [] k x e = cc
-drop_at (y ∷ ys) zero x e = let same : y ≡ x = cc in rw same
-drop_at (y ∷ ys) (suc k) x e = let n : suc k + 1 ≡ suc (k + 1) = omega arith in
-    cc (drop_at ys k x e)
-
-module _ (own : List ℕ) (blind : ℕ → ℕ → Bool) (w : World) (cpu : ℕ) (ds : List May) (k : ℕ) (d : May)
+module _ (own : List ℕ) (sight : Sight) (w : World) (cpu : ℕ) (ds : List May) (k : ℕ) (d : May)
     (at : slice_get ds k ≡ Some d) (b : Bool)
     (is : b ≡ (not (is_its w.tree.root.name (name_on w cpu) d)
-    || (deed_answers w cpu d.deed || reads_outside own blind w (deed_event cpu d.deed))))
-    (before : deeds_read_outside own blind w cpu ds ≡ deeds_read_outside own blind w cpu (drop k ds)) where
-  next : deeds_read_outside own blind w cpu ds ≡ (b && deeds_read_outside own blind w cpu (drop (k + 1) ds))
+    || (deed_answers w cpu d.deed || event_passes own sight w (deed_event cpu d.deed))))
+    (before : deeds_pass own sight w cpu ds ≡ deeds_pass own sight w cpu (drop k ds)) where
+  next : deeds_pass own sight w cpu ds ≡ (b && deeds_pass own sight w cpu (drop (k + 1) ds))
   next = rw (before, drop_at ds k d at, ← is)
 
-  pub deed_reads : b ≡ false → false ≡ deeds_read_outside own blind w cpu ds
+  pub deed_reads : b ≡ false → false ≡ deeds_pass own sight w cpu ds
   unfolding next
   deed_reads e = sym (rw (next, e))
 
   pub deed_passes : b ≡ true
-      → deeds_read_outside own blind w cpu ds ≡ deeds_read_outside own blind w cpu (drop (k + 1) ds)
+      → deeds_pass own sight w cpu ds ≡ deeds_pass own sight w cpu (drop (k + 1) ds)
   unfolding next
   deed_passes e = rw (next, e)
-
-pub drop_all : {A : Type 0} (xs : List A) (k : ℕ) → length xs ≤ k → drop k xs ≡ []
-drop_all [] zero l = refl
-drop_all [] (suc k) l = refl
-drop_all (x ∷ xs) zero l = absurd (omega arith)
-drop_all (x ∷ xs) (suc k) l = drop_all xs k (omega arith)
 
 -- ---- the parts of a test
 
@@ -84,31 +72,31 @@ or_off : (v : Bool) → ((not v || false) && true) ≡ not v
 or_off true = refl
 or_off false = refl
 
-module _ (own : List ℕ) (blind : ℕ → ℕ → Bool) (ds : List May) (w : World) (cpu : ℕ) where
+module _ (own : List ℕ) (sight : Sight) (ds : List May) (w : World) (cpu : ℕ) where
   abbrev polls : Bool
-  polls = reads_outside own blind w (E.Poll cpu)
+  polls = event_passes own sight w (E.Poll cpu)
 
   abbrev vain : Bool
   vain = is_vain (event w (E.Poll cpu)).outcome
 
   abbrev deeds : Bool
-  deeds = deeds_read_outside own blind w cpu ds
+  deeds = deeds_pass own sight w cpu ds
 
   abbrev small : Bool
-  small = if_one_runs (runs_on w cpu) (is_confined own w.tree)
+  small = if_runs (runs_on w cpu) (has_no_child own w.tree)
 
-  pub poll_off : polls ≡ false → false ≡ hostile_looks_away own blind ds w cpu
+  pub poll_off : polls ≡ false → false ≡ hostile_looks_away own sight ds w cpu
   poll_off e = cc
 
   module _ (e : polls ≡ true) where
-    pub large : small ≡ false → false ≡ hostile_looks_away own blind ds w cpu
+    pub large : small ≡ false → false ≡ hostile_looks_away own sight ds w cpu
     large f = cc (and_off (not vain || deeds))
 
     module _ (f : small ≡ true) where
-      pub by_deeds : deeds ≡ true → true ≡ hostile_looks_away own blind ds w cpu
+      pub by_deeds : deeds ≡ true → true ≡ hostile_looks_away own sight ds w cpu
       by_deeds h = cc (or_on vain)
 
-      pub by_poll : deeds ≡ false → not vain ≡ hostile_looks_away own blind ds w cpu
+      pub by_poll : deeds ≡ false → not vain ≡ hostile_looks_away own sight ds w cpu
       by_poll h = cc (or_off vain)
 
 pub not_done : (o : Outcome) → (o ≡ O.Done → ⊥) → is_vain o ≡ false

@@ -2,7 +2,7 @@
 use Rattle.std.proofs.Common.{◌≡◌, ℕ, ◌+◌, ◌<◌, Bool, inl, inr, true, false, List, length, Some, slice_get}
 use Rattle.std.proofs.Common.{Option, refl, arith}
 use Rattle.std.proofs.lemmas.Bool.{cases_lt}
-use Rattle.pip_away.specs.Blind.{LeftOut, is_left_out, leaves_out}
+use Rattle.pip_away.specs.Blind.{LeftOut, sight_in, leaves_out}
 use Rattle.pip_base.specs.Memory.{Memory}
 use Rattle.pip_model.specs.Worlds.{World}
 use Rattle.pip_search.specs.Again.{HasClosed}
@@ -26,7 +26,7 @@ use Rattle.pip_every.specs.declared.away.Away.TheVariants.{No, Unknown, Yes}
 
 -- one processor more
 pub passes_more : (o : LeftOut) (g : Menu) (w : World) (n : ℕ) → PassesUpTo o g w n
-    → looks_away o.own (is_left_out o) g w n ≡ true → PassesUpTo o g w (n + 1)
+    → looks_away o.own (sight_in o) g w n ≡ true → PassesUpTo o g w (n + 1)
 passes_more o g w n before here j low = elim (cases_lt j n) [
   | inl less ↦ before j less
   | inr most ↦ let is : n ≡ j = omega arith in

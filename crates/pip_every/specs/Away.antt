@@ -2,7 +2,7 @@
 -- what it says.
 use Rattle.std.specs.Prelude.{◌≡◌, ℕ, ◌<◌, ◌&&◌, ◌||◌, not, if◌then◌else◌, Bool, true, false, List, [], ◌∷◌, reverse}
 use Rattle.std.specs.Prelude.{Option, Some, None}
-use Rattle.pip_away.specs.Blind.{LeftOut, is_left_out, leaves_out}
+use Rattle.pip_away.specs.Blind.{LeftOut, sight_in, leaves_out}
 use Rattle.pip_base.specs.Memory.{Memory}
 use Rattle.pip_base.specs.declared.outcome.Outcome.{Outcome}
 use Rattle.pip_base.specs.declared.outcome.Outcome.TheVariants as O
@@ -21,7 +21,7 @@ use Rattle.pip_model.specs.Happens.{event}
 use Rattle.pip_model.specs.Reach.{reach}
 use Rattle.pip_model.specs.Turn.{turn}
 use Rattle.pip_model.specs.Worlds.{World, runs_on}
-use Rattle.pip_guests.specs.Tests.{all_read_outside, if_one_runs, is_confined, reads_outside}
+use Rattle.pip_guests.specs.Sights.{Sight, event_passes, events_pass, has_no_child, if_runs}
 use Rattle.pip_search.specs.Orders.{IsNoLater}
 use Rattle.pip_search.specs.Reached.{AreChoices}
 use Rattle.pip_search.specs.Systems.{after_choices}
@@ -39,33 +39,33 @@ is_vain _ = false
 -- a deed is a load that is answered
 abbrev pub deed_answers : World → ℕ → Deed → Bool
 deed_answers w cpu (D.Load va z) =
-    if_one_runs (runs_on w cpu) (λ r. is_reached (reach w.tree r.name va Load z))
+    if_runs (runs_on w cpu) (λ r. is_reached (reach w.tree r.name va Load z))
 deed_answers w cpu _ = false
 
 -- no deed of what runs there reads such a word, but for loads that are answered
-abbrev pub deeds_read_outside : List ℕ → (ℕ → ℕ → Bool) → World → ℕ → List May → Bool
-deeds_read_outside own blind w cpu [] = true
-deeds_read_outside own blind w cpu (d ∷ ds) = (not (is_its w.tree.root.name (name_on w cpu) d)
-    || (deed_answers w cpu d.deed || reads_outside own blind w (deed_event cpu d.deed)))
-    && deeds_read_outside own blind w cpu ds
+abbrev pub deeds_pass : List ℕ → Sight → World → ℕ → List May → Bool
+deeds_pass own sight w cpu [] = true
+deeds_pass own sight w cpu (d ∷ ds) = (not (is_its w.tree.root.name (name_on w cpu) d)
+    || (deed_answers w cpu d.deed || event_passes own sight w (deed_event cpu d.deed)))
+    && deeds_pass own sight w cpu ds
 
 -- the test where a hostile partition runs
-abbrev pub hostile_looks_away : List ℕ → (ℕ → ℕ → Bool) → List May → World → ℕ → Bool
-hostile_looks_away own blind ds w cpu = reads_outside own blind w (E.Poll cpu)
-    && ((not (is_vain (event w (E.Poll cpu)).outcome) || deeds_read_outside own blind w cpu ds)
-    && if_one_runs (runs_on w cpu) (is_confined own w.tree))
+abbrev pub hostile_looks_away : List ℕ → Sight → List May → World → ℕ → Bool
+hostile_looks_away own sight ds w cpu = event_passes own sight w (E.Poll cpu)
+    && ((not (is_vain (event w (E.Poll cpu)).outcome) || deeds_pass own sight w cpu ds)
+    && if_runs (runs_on w cpu) (has_no_child own w.tree))
 
 -- the test of a state and a processor
-abbrev pub looks_away : List ℕ → (ℕ → ℕ → Bool) → Menu → World → ℕ → Bool
-looks_away own blind g w cpu = if is_hostile w.tree.root.name (name_on w cpu) g.may
-    then hostile_looks_away own blind g.may w cpu else all_read_outside own blind w (events_made (turn w cpu 0))
+abbrev pub looks_away : List ℕ → Sight → Menu → World → ℕ → Bool
+looks_away own sight g w cpu = if is_hostile w.tree.root.name (name_on w cpu) g.may
+    then hostile_looks_away own sight g.may w cpu else events_pass own sight w (events_made (turn w cpu 0))
 
 -- ---- what is said
 
 -- the state after these choices passes the test on a processor
 abbrev pub passes_after : Memory → LeftOut → Menu → Moment → List ℕ → ℕ → Bool
 passes_after first o g s cs cpu =
-    looks_away o.own (is_left_out o) g (after_choices (menu_model first g) s cs).world cpu
+    looks_away o.own (sight_in o) g (after_choices (menu_model first g) s cs).world cpu
 
 -- the state after these choices fails on a processor, the first on which it does; and none does after choices before
 -- these

@@ -1,6 +1,6 @@
 -- How it is found whether all outside looks away.
 use Rattle.std.specs.Prelude.{◌≡◌, ℕ, ◌<◌, true, false, List, length, Option, Some, None, slice_get}
-use Rattle.pip_away.specs.Blind.{LeftOut, is_left_out}
+use Rattle.pip_away.specs.Blind.{LeftOut, sight_in}
 use Rattle.pip_base.specs.Memory.{Memory}
 use Rattle.pip_every.specs.Away.{looks_away}
 use Rattle.pip_every.specs.Keys.{IsKeyOf}
@@ -11,12 +11,12 @@ use Rattle.pip_search.specs.Keys.{Keyed, key_of}
 
 -- a world passes the test on the processors before this one
 abbrev pub PassesUpTo : LeftOut → Menu → World → ℕ → Type 0
-PassesUpTo o g w n = (j : ℕ) → j < n → looks_away o.own (is_left_out o) g w j ≡ true
+PassesUpTo o g w n = (j : ℕ) → j < n → looks_away o.own (sight_in o) g w j ≡ true
 
 -- it fails on this processor, the first on which it does
 pub record FailsFirst (o : LeftOut) (g : Menu) (w : World) (k : ℕ) : Type 0 where
   pub cpu : k < g.scope.cpus
-  pub seen : looks_away o.own (is_left_out o) g w k ≡ false
+  pub seen : looks_away o.own (sight_in o) g w k ≡ false
   pub least : PassesUpTo o g w k
 
 -- this is the first processor on which it fails, if there is one

@@ -5,7 +5,7 @@ ghost use Rattle.pip_base.specs.Memory.{IsMemory};
 ghost use Rattle.pip_model.specs.Worlds.{World};
 ghost use Rattle.pip_model.specs.declared.turn_end.TurnEnd.{TurnEnd};
 ghost use Rattle.pip_search.specs.Systems.{IsKey};
-ghost use Rattle.pip_away.specs.Blind.{blind_of};
+ghost use Rattle.pip_away.specs.Blind.{sight_of};
 ghost use Rattle.pip_every.specs.Away as away;
 ghost use Rattle.pip_every.specs.Choosing.{ChangesNothing, HasChosen, HasPicked, IsAtWorld};
 ghost use Rattle.pip_every.specs.Choosing.{machine_scope};
@@ -165,7 +165,7 @@ impl<F: First, L: Ledger> Explorer<F, L> {
         requires key { IsKey (menu_model F.words (explored self.old)) key.now }
         requires cpu { cpu < (explored self.old).scope.cpus }
         ensures passes { (m : Moment) → IsKeyOf F.words (explored self.old).scope key.now m → result
-            ≡ away.looks_away blind.now.own.items (blind_of blind.now) (explored self.old) m.world cpu }
+            ≡ away.looks_away blind.now.own.items (sight_of blind.now) (explored self.old) m.world cpu }
         ensures base { explored self.new ≡ explored self.old }
     {
         let _ = self.go_to(key);

@@ -3,11 +3,11 @@ ghost use Rattle.std.specs.Prelude.{◌≡◌, ◌<◌, ◌||◌, ℕ, not, leng
 ghost use Rattle.pip_every.specs.Menus.{Menu, deed_event, is_its, name_on};
 ghost use Rattle.pip_model.specs.Events as E;
 ghost use Rattle.pip_model.specs.Worlds.{World};
-ghost use Rattle.pip_guests.specs.Tests.{reads_outside};
+ghost use Rattle.pip_guests.specs.Sights.{event_passes};
 ghost use Rattle.pip_switch.specs.Standing.{StandsAs};
-ghost use Rattle.pip_away.specs.Blind.{blind_of};
+ghost use Rattle.pip_away.specs.Blind.{sight_of};
 ghost use Rattle.pip_every.specs.Away as tests;
-ghost use Rattle.pip_every.specs.Away.{deed_answers, deeds_read_outside};
+ghost use Rattle.pip_every.specs.Away.{deed_answers, deeds_pass};
 
 use crate::menus::{Deed, May, is_hostile, is_its};
 use pip_away::{
@@ -31,7 +31,7 @@ fn vector_looks_away<M: Frames, L: Ledger>(
     requires cpu { cpu < length machine.now.cpus }
     requires stands { (w : World) × StandsAs machine.now w }
     ensures { (w : World) (a b : ℕ) → StandsAs machine.now w → result
-        ≡ reads_outside blind.now.own.items (blind_of blind.now) w (E.Trap cpu vector a b) }
+        ≡ event_passes blind.now.own.items (sight_of blind.now) w (E.Trap cpu vector a b) }
 {
     trap_looks_away(machine, blind, cpu, u32::from(vector), steps)
 }
@@ -47,7 +47,7 @@ fn deed_looks_away<M: Frames, L: Ledger>(
     requires cpu { cpu < length machine.now.cpus }
     requires stands { (w : World) × StandsAs machine.now w }
     ensures { (w : World) → StandsAs machine.now w → result ≡ (deed_answers w cpu deed.now
-        || reads_outside blind.now.own.items (blind_of blind.now) w (deed_event cpu deed.now)) }
+        || event_passes blind.now.own.items (sight_of blind.now) w (deed_event cpu deed.now)) }
 {
     match deed {
         Deed::Load { va, size } => {
@@ -79,7 +79,7 @@ fn may_looks_away<M: Frames, L: Ledger>(
     requires stands { (w : World) × StandsAs machine.now w }
     ensures { (w : World) → StandsAs machine.now w → result ≡ (not (is_its w.tree.root.name (name_on w cpu) may.now)
         || (deed_answers w cpu may.now.deed
-        || reads_outside blind.now.own.items (blind_of blind.now) w (deed_event cpu may.now.deed))) }
+        || event_passes blind.now.own.items (sight_of blind.now) w (deed_event cpu may.now.deed))) }
 {
     !is_its(&machine.runs(cpu), may) || deed_looks_away(machine, blind, cpu, &may.deed, steps)
 }
@@ -95,7 +95,7 @@ fn deeds_look_away<M: Frames, L: Ledger>(
     requires cpu { cpu < length machine.now.cpus }
     requires stands { (w : World) × StandsAs machine.now w }
     ensures { (w : World) → StandsAs machine.now w →
-        result ≡ deeds_read_outside blind.now.own.items (blind_of blind.now) w cpu menu.now }
+        result ≡ deeds_pass blind.now.own.items (sight_of blind.now) w cpu menu.now }
 {
     for k in 0..menu.len() {
         if !may_looks_away(machine, blind, cpu, &menu[k], steps) {
@@ -116,7 +116,7 @@ fn hostile_looks_away<M: Frames, L: Ledger>(
     requires cpu { cpu < length machine.old.cpus }
     requires stands { (w : World) × StandsAs machine.old w }
     ensures away { (w : World) → StandsAs machine.old w →
-        result ≡ tests.hostile_looks_away blind.now.own.items (blind_of blind.now) menu.now w cpu }
+        result ≡ tests.hostile_looks_away blind.now.own.items (sight_of blind.now) menu.now w cpu }
     ensures count { length machine.new.cpus ≡ length machine.old.cpus }
 {
     if !poll_looks_away(machine, blind, cpu, steps) {
@@ -147,7 +147,7 @@ pub fn looks_away<M: Frames, L: Ledger>(
     requires cpu { cpu < length machine.old.cpus }
     requires stands { (w : World) × StandsAs machine.old w }
     ensures away { (w : World) (g : Menu) → StandsAs machine.old w → g.may ≡ menu.now →
-        result ≡ tests.looks_away blind.now.own.items (blind_of blind.now) g w cpu }
+        result ≡ tests.looks_away blind.now.own.items (sight_of blind.now) g w cpu }
     ensures count { length machine.new.cpus ≡ length machine.old.cpus }
 {
     if is_hostile(&machine.runs(cpu), menu) {

@@ -1,6 +1,6 @@
 -- Two words of one class in an entry do the same.
 use Rattle.std.proofs.Common.{◌≡◌, ℕ, ◌+◌, ◌==◌, ◌&&◌, ◌||◌, ◌⊎◌, inl, inr, not, Bool, true, false, cond, List, []}
-use Rattle.std.proofs.Common.{◌∷◌, refl, sym, arith, eqb-true, option_map}
+use Rattle.std.proofs.Common.{◌∷◌, refl, sym, subst, arith, eqb-true, option_map}
 use Rattle.std.proofs.Common.{Option, Some, None}
 use Rattle.std.specs.Prelude.{is_none}
 use Rattle.pip_base.specs.declared.types.Access.{Access}
@@ -9,13 +9,14 @@ use Rattle.pip_base.specs.declared.types.Size.{Size}
 use Rattle.pip_base.specs.declared.types.Size.TheVariants.{Byte, Word}
 use Rattle.pip_model.specs.Lists.{In}
 use Rattle.pip_model.specs.Happens.{written_over}
-use Rattle.pip_model.proofs.OnLists.Members.{any_none, find_in, has_in}
+use Rattle.pip_model.proofs.OnLists.Members.{find_in, has_in}
 use Rattle.pip_model.specs.Handlers.{block_at, store_at}
 use Rattle.pip_model.specs.Reach.{Faulted, Place, Reached, reach, reach_by_row}
 use Rattle.pip_model.specs.Tree.{Row, Tree, hidden, node, row_at, vpage, word_of}
 use Rattle.pip_guests.specs.Entries.{ClassesAreSights, EntriesHaveClasses, block_class, by_class, class_look}
 use Rattle.pip_guests.specs.Entries.{entry_fits}
-use Rattle.pip_guests.specs.Entries.{fits_rows, free_of, is_of_word, place_class, rows_same, rows_tree, seen_by}
+use Rattle.pip_guests.specs.Entries.{fits_rows, free_of, is_of_word, place_class}
+use Rattle.pip_guests.specs.Entries.{row_fits, rows_fit, rows_tree, seen_by}
 use Rattle.pip_guests.specs.Entries.{word_class}
 use Rattle.pip_guests.specs.Outside.{BothLand, EntryMisses, IsOneUse, Lands}
 use Rattle.pip_guests.specs.Sights.{each_from}
@@ -87,33 +88,49 @@ entries_have_classes own blind entries t p g i f in_own apart at is y k =
 
 -- ---- the test
 
-module _ (t : Tree) (p : ℕ) (rows : List Row) (fit : fits_rows t p rows ≡ true) where
-  rows_are : (rs ss : List Row) → rows_same rs ss ≡ true → rs ≡ ss
-  rows_are [] [] e = refl
-  rows_are [] (s ∷ ss) e = cc
-  rows_are (r ∷ rs) [] e = cc
-  rows_are (r ∷ rs) (s ∷ ss) e =
-      let (one, rest) = both _ _ e in
-      let (at, more) = both _ _ one in
-      let (frame, rights) = both _ _ more in
-      let at_same = eqb-true r.at s.at at in
-      let frame_same = eqb-true r.frame s.frame frame in
-      let rights_same = eqb-true r.rights s.rights rights in
-      let others = rows_are rs ss rest in
-      λ i. record { at = at_same i; frame = frame_same i; rights = rights_same i } ∷ others i
+one_row : (a b c : Bool) → (a && (b && c)) ≡ true → (a ≡ true) × (b ≡ true) × (c ≡ true)
+one_row a b c e = let (x, y) = both _ _ e in let (u, v) = both _ _ y in (x, u, v)
 
+fitting : (t : Tree) (r s : Row) → row_fits t r s ≡ true → (r ≡ s) × ((hidden t s.frame || 0 == s.frame) ≡ false)
+fitting t r s e =
+    let (same, shown) = both _ _ e in
+    let (at, frame, rights) = one_row _ _ _ same in
+    let at_same = eqb-true r.at s.at at in
+    let frame_same = eqb-true r.frame s.frame frame in
+    let rights_same = eqb-true r.rights s.rights rights in (
+      λ i. record { at = at_same i; frame = frame_same i; rights = rights_same i },
+      off _ shown,
+    )
+
+rows_are : (t : Tree) (rs ss : List Row) → rows_fit t rs ss ≡ true
+    → (rs ≡ ss) × ((r : Row) → In r ss → (hidden t r.frame || 0 == r.frame) ≡ false)
+rows_are t [] [] e = (refl, λ r i. absurd i)
+rows_are t [] (s ∷ ss) e = cc
+rows_are t (r ∷ rs) [] e = cc
+rows_are t (r ∷ rs) (s ∷ ss) e =
+    let (one, rest) = both _ _ e in
+    let (same, shown) = fitting t r s one in
+    let (others, all) = rows_are t rs ss rest in
+    (rw (same, others), λ q i. elim i [ inl d ↦ subst (λ r. (hidden t r.frame || 0 == r.frame) ≡ false) (sym d) shown
+    | inr j ↦ all q j ])
+
+module _ (t : Tree) (p : ℕ) (rows : List Row) (fit : fits_rows t p rows ≡ true) where
   own_rows : (node t p).rows ≡ rows
-  own_rows = rows_are (node t p).rows rows (both _ _ fit).0
+  own_rows = (rows_are t (node t p).rows rows fit).0
 
   -- none of their pages is hidden
   shown : (r : Row) → In r rows → hidden t r.frame ≡ hidden (rows_tree rows) r.frame
-  shown r i = by (hidden t r.frame) (hidden (rows_tree rows) r.frame)
-      (any_none (λ r. hidden t r.frame || hidden (rows_tree rows) r.frame) r rows (off _ (both _ _ fit).1) i)
+  shown r i = by (hidden t r.frame) (0 == r.frame) (eq_back r.frame)
+      ((rows_are t (node t p).rows rows fit).1 r i)
     where
-      by : (a b : Bool) → (a || b) ≡ false → a ≡ b
-      by true b e = cc
-      by false true e = cc
-      by false false e = refl
+      eq_back : (n : ℕ) → (0 == n) ≡ false → hidden (rows_tree rows) n ≡ false
+      eq_back n e = rw e
+
+      by : (a b : Bool) → (b ≡ false → hidden (rows_tree rows) r.frame ≡ false) → (a || b) ≡ false
+          → a ≡ hidden (rows_tree rows) r.frame
+      by true b f e = cc
+      by false true f e = cc
+      by false false f e = sym (f refl)
 
   same_reach : (va : ℕ) (a : Access) (z : Size) → reach (rows_tree rows) 0 va a z ≡ reach t p va a z
   same_reach va a z = rw own_rows (rw (by (row_at rows (vpage va)) refl))

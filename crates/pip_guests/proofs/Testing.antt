@@ -8,21 +8,20 @@ use Rattle.std.proofs.lemmas.Bool.{cases_eq, ltb-true}
 use Rattle.pip_base.specs.declared.types.Access.TheVariants.{Load, Store, Fetch}
 use Rattle.pip_base.specs.declared.types.Size.{Size}
 use Rattle.pip_base.specs.declared.types.Size.TheVariants.{Word}
-use Rattle.pip_guests.specs.Outside.{EntryMisses, seen_but}
+use Rattle.pip_guests.specs.Outside.{EntryMisses}
 use Rattle.pip_guests.specs.Sights.{IsSight, Sight, SightsPass}
 use Rattle.pip_guests.specs.Sights as S
-use Rattle.pip_guests.specs.Tests as T
 use Rattle.pip_model.specs.Answers.{Five, child_of}
 use Rattle.pip_model.specs.CountToMap.{pages_needed}
 use Rattle.pip_model.specs.Events.{Event}
 use Rattle.pip_model.specs.Events as E
 use Rattle.pip_model.specs.Handlers.{block, save_place}
-use Rattle.pip_model.specs.Happens.{call_named, event, fault_vector, written_over}
+use Rattle.pip_model.specs.Happens.{call_named, event, fault_vector}
 use Rattle.pip_model.specs.Lists.{In, has}
 use Rattle.pip_model.specs.Prepare.{next_in_chain}
 use Rattle.pip_model.specs.Reach.{Faulted, Place, Reached, reach}
 use Rattle.pip_model.specs.Switching.{target_node}
-use Rattle.pip_model.specs.Tree.{Node, Tree, chain, children, has_table, lists, vpage, word_of}
+use Rattle.pip_model.specs.Tree.{Node, Tree, chain, children, has_table, lists, vpage}
 use Rattle.pip_model.specs.Worlds.{IsSoundWorld, World, runs_on}
 use Rattle.pip_model.specs.declared.call_name.CallName.{CallName}
 use Rattle.pip_model.specs.declared.call_name.CallName.TheVariants.{Masks, OnMemory, Unknown, Yields}
@@ -58,10 +57,10 @@ off false e = refl
 pub not_both : (a : Bool) → a ≡ false → a ≡ true → ⊥
 not_both a e f = cc
 
-pub all_are : (f : ℕ → Bool) (n i : ℕ) → T.all_from f n i ≡ true → (j : ℕ) → i ≤ j → j < i + n → f j ≡ true
+pub all_are : (f : ℕ → Bool) (n i : ℕ) → S.each_from f n i ≡ true → (j : ℕ) → i ≤ j → j < i + n → f j ≡ true
 all_are f zero i e j l k = absurd (omega arith)
 all_are f (suc n) i e j l k =
-    let h = both (f i) (T.all_from f n (i + 1)) e in
+    let h = both (f i) (S.each_from f n (i + 1)) e in
     elim (cases_eq i j) [
       | inl d ↦ rw (← d, h.0)
       | inr d ↦ all_are f n (i + 1) h.1 j (omega arith) (omega arith)
@@ -223,23 +222,6 @@ module _ (own : List ℕ) (look : ℕ → ℕ → ℕ → ℕ) (s : Sight) (is :
   all_read [] w e = tt
   all_read (x ∷ es) w e = let h = both _ _ e in (reads w x h.0, all_read es (event w x).world h.1)
 
--- the words that are left out
-pub is_but : (own : List ℕ) (blind : ℕ → ℕ → Bool) → IsSight own (seen_but blind) (T.but blind)
-is_but own blind = record {
-  seen = λ g i e x y k. all (blind g i) x y e k;
-  blind = λ g i e x y. rw e;
-  entry = λ t p g i e y k. inl (all (blind g i) (word_of (t.words g) i) y e k);
-  stores = λ va z g i e n x y k. same (blind g i) x y (written_over va z n) k;
-}
-  where
-    all : (b : Bool) (x y : ℕ) → not b ≡ true → cond b 0 x ≡ cond b 0 y → x ≡ y
-    all true x y e k = cc
-    all false x y e k = k
-
-    same : (b : Bool) (x y : ℕ) (f : ℕ → ℕ) → cond b 0 x ≡ cond b 0 y → cond b 0 (f x) ≡ cond b 0 (f y)
-    same true x y f k = refl
-    same false x y f k = rw k
-
 pub sights_pass : SightsPass
 sights_pass own look s w e is k = reads own look s is w e k
 
@@ -258,16 +240,3 @@ confined own w cpu r s k e =
           (λ q. not_both _ (off _ b.0) (eq-eqb r.name w.tree.root.name q))
           (λ d. none_found (λ x. x.born == d) (children w.tree r.name) b.1),
     )
-
--- one that has few pages, too
-pub has_none_too : (own : List ℕ) (t : Tree) (o : Option Occupant) → T.if_one_runs o (T.is_confined own t) ≡ true
-    → S.if_runs o (S.has_no_child own t) ≡ true
-has_none_too own t None e = refl
-has_none_too own t (Some r) e =
-    by (has own r.name) (not (r.name == t.root.name)) (nat_lt (length (children t r.name)) 1) _ e
-  where
-    by : (a b c d : Bool) → (a && (b && (c && d))) ≡ true → (a && (b && c)) ≡ true
-    by true true true d e = refl
-    by true true false d e = cc
-    by true false c d e = cc
-    by false b c d e = cc

@@ -1,7 +1,6 @@
 -- Words in the entries of a handler table, by what a partition does with them.
 use Rattle.std.specs.Prelude.{◌≡◌, ℕ, ◌+◌, ◌==◌, ◌&&◌, ◌||◌, not, if◌then◌else◌, Bool, true, false, List, [], ◌∷◌}
 use Rattle.std.specs.Prelude.{Option, Some, None, is_none, option_map}
-use Rattle.std.specs.List.{list_any}
 use Rattle.pip_base.specs.declared.types.Size.{Size}
 use Rattle.pip_base.specs.declared.types.Size.TheVariants.{Byte, Word}
 use Rattle.pip_model.specs.Answers.{nobody}
@@ -49,20 +48,20 @@ EntriesHaveClasses = (own : List ℕ) (blind : ℕ → ℕ → Bool) (entries : 
 abbrev pub rows_tree : List Row → Tree
 rows_tree rows = record { frames = 0; root = record nobody { rows = rows }; others = []; words = λ g. None }
 
--- two rows are one
-abbrev pub row_same : Row → Row → Bool
-row_same r s = r.at == s.at && (r.frame == s.frame && r.rights == s.rights)
+-- a row is another one, whose page isn't hidden
+abbrev pub row_fits : Tree → Row → Row → Bool
+row_fits t r s = (r.at == s.at && (r.frame == s.frame && r.rights == s.rights))
+    && not (hidden t s.frame || 0 == s.frame)
 
--- two lists of rows are
-abbrev pub rows_same : List Row → List Row → Bool
-rows_same [] [] = true
-rows_same (r ∷ rs) (s ∷ ss) = row_same r s && rows_same rs ss
-rows_same _ _ = false
+-- so it is with each of two lists
+abbrev pub rows_fit : Tree → List Row → List Row → Bool
+rows_fit t [] [] = true
+rows_fit t (r ∷ rs) (s ∷ ss) = row_fits t r s && rows_fit t rs ss
+rows_fit t _ _ = false
 
 -- p has these rows, and none of their pages is hidden
 abbrev pub fits_rows : Tree → ℕ → List Row → Bool
-fits_rows t p rows =
-    rows_same (node t p).rows rows && not (list_any (λ r. hidden t r.frame || hidden (rows_tree rows) r.frame) rows)
+fits_rows t p rows = rows_fit t (node t p).rows rows
 
 -- these words are left out: but for entries
 abbrev pub free_of : (ℕ → ℕ → Bool) → (ℕ → ℕ → Option (List Row)) → ℕ → ℕ → Bool

@@ -98,26 +98,55 @@ abbrev pub last_number : List ℕ → Option ℕ
 last_number [] = None
 last_number (space ∷ text) = number_of text
 
--- a word of a page
-abbrev pub seen_in : ℕ → ℕ → Option Freedom
-seen_in page index = if nat_lt index 1024 then Some (F.Seen (record { page = page; index = index })) else None
+-- a number that follows a space, and what follows it
+abbrev pub next_number : List ℕ → Option (ℕ × List ℕ)
+next_number [] = None
+next_number (space ∷ text) = option_map (λ n. (n, after_word text)) (number_of (first_word text))
 
--- by the page and by what follows it
-abbrev pub seen_word : Option ℕ → List ℕ → Option Freedom
-seen_word None rest = None
-seen_word (Some page) rest = option_and_then (seen_in page) (last_number rest)
+-- with one more, up to the end of the line
+abbrev pub with_last : Option (ℕ × List ℕ) → Option (ℕ × ℕ)
+with_last None = None
+with_last (Some (n, rest)) = option_map (λ m. (n, m)) (last_number rest)
 
 -- the two numbers that follow a word
-abbrev pub seen_said : List ℕ → Option Freedom
-seen_said [] = None
-seen_said (space ∷ text) = seen_word (number_of (first_word text)) (after_word text)
+abbrev pub two_numbers : List ℕ → Option (ℕ × ℕ)
+two_numbers rest = with_last (next_number rest)
+
+-- a word of a page
+abbrev pub seen_in : Option (ℕ × ℕ) → Option Freedom
+seen_in None = None
+seen_in (Some (page, index)) =
+    if nat_lt index 1024 then Some (F.Seen (record { page = page; index = index })) else None
+
+-- an entry of a partition's handler table
+abbrev pub entry_in : Option (ℕ × ℕ) → Option Freedom
+entry_in None = None
+entry_in (Some (name, vector)) = Some (F.Entry (record { name = name; vector = vector }))
+
+-- a row of a partition, by its page and its rights
+abbrev pub row_in : ℕ → ℕ → Option (ℕ × ℕ) → Option Freedom
+row_in name at None = None
+row_in name at (Some (page, rights)) =
+    Some (F.Row (record { name = name; at = at; page = page; rights = rights }))
+
+-- by the virtual page, and what follows it
+abbrev pub row_at_page : ℕ → Option (ℕ × List ℕ) → Option Freedom
+row_at_page name None = None
+row_at_page name (Some (at, rest)) = row_in name at (two_numbers rest)
+
+-- by the partition, and what follows it
+abbrev pub row_said : Option (ℕ × List ℕ) → Option Freedom
+row_said None = None
+row_said (Some (name, rest)) = row_at_page name (next_number rest)
 
 -- what is left out or seen, by the word before it
 abbrev pub freedom_of : List ℕ → List ℕ → Option (Option Freedom)
 freedom_of word rest =
     if bytes_eq word (codes "any") then Some (option_map F.Program (last_number rest))
     else if bytes_eq word (codes "free") then Some (option_map F.Page (last_number rest))
-    else if bytes_eq word (codes "seen") then Some (seen_said rest)
+    else if bytes_eq word (codes "seen") then Some (seen_in (two_numbers rest))
+    else if bytes_eq word (codes "entry") then Some (entry_in (two_numbers rest))
+    else if bytes_eq word (codes "row") then Some (row_said (next_number rest))
     else None
 
 -- what a line says that asks of no label: where its first word leaves something out, that, if it is one
@@ -151,7 +180,12 @@ pub record MenuSaid : Type 0 where
 
 -- nothing
 abbrev pub no_menu : MenuSaid
-no_menu = record { may = []; again = []; comes = []; out = record { own = []; pages = []; seen = [] } }
+no_menu = record {
+  may = [];
+  again = [];
+  comes = [];
+  out = record { own = []; pages = []; seen = []; entries = []; rows = [] };
+}
 
 -- with a label of a question
 abbrev pub with_question : Question → List ℕ → MenuSaid → MenuSaid
@@ -163,12 +197,16 @@ abbrev pub with_freedom : Freedom → LeftOut → LeftOut
 with_freedom (F.Program name) out = record out { own = out.own ++ name ∷ [] }
 with_freedom (F.Page page) out = record out { pages = out.pages ++ page ∷ [] }
 with_freedom (F.Seen word) out = record out { seen = out.seen ++ word ∷ [] }
+with_freedom (F.Entry entry) out = record out { entries = out.entries ++ entry ∷ [] }
+with_freedom (F.Row row) out = record out { rows = out.rows ++ row ∷ [] }
 
--- there is room for it: 64 partitions, 256 pages, and 256 words that are seen
+-- there is room for it: 64 partitions, 256 pages, 256 words that are seen, 256 entries, and 256 rows
 abbrev pub can_add : Freedom → LeftOut → Bool
 can_add (F.Program name) out = nat_lt (length out.own) 64
 can_add (F.Page page) out = nat_lt (length out.pages) 256
 can_add (F.Seen word) out = nat_lt (length out.seen) 256
+can_add (F.Entry entry) out = nat_lt (length out.entries) 256
+can_add (F.Row row) out = nat_lt (length out.rows) 256
 
 -- what is said up to line n and with it. A menu has at most 65,536 lines, 1024 deeds, and 16 labels in all
 abbrev pub with_line : ℕ → MenuSaid → Result Said MenuKind → Result MenuSaid MenuKind

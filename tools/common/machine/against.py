@@ -21,7 +21,8 @@ from .script import BadLine
 EACH, AGAIN, COMES = b"each", b"again", b"comes"
 ASKS = (AGAIN, COMES)                                   # the words before a label
 LEFT_OUT = {b"any": ((script.WORD,), 64), b"free": ((script.WORD,), 256),    # the limits of numbers, and of lines
-            b"seen": ((script.WORD, WORDS_OF_PAGE), 256)}
+            b"seen": ((script.WORD, WORDS_OF_PAGE), 256), b"entry": ((script.WORD,) * 2, 256),
+            b"row": ((script.WORD,) * 4, 256)}
 WORDS = (b"ld", b"lb", b"st", b"sb", b"trap", b"call")       # the lines of scripts that are deeds
 MOST_DEEDS, MOST_LABELS, MOST_LINES = 1024, 16, 65536    # of a menu
 
@@ -81,7 +82,7 @@ def add(menu: Menu, place: int, line: bytes) -> None:
 
 
 def left_out(place: int, limits: tuple[int, ...], words: list[bytes]) -> tuple[int, ...]:
-    """The numbers after `any`, `free` or `seen`."""
+    """The numbers after `any`, `free`, `seen`, `entry` or `row`."""
     try:
         numbers = tuple(map(script.number, words))
     except script.Bad:

@@ -1,35 +1,56 @@
 //! Whether all that is outside of hostile partitions looks away from words that are left out (docs/FORMATS.md,
 //! "against").
 
-use std::collections::HashSet;
-
 use crate::calls::{PREPARE, YIELD};
 use crate::frames::*;
 use crate::isa::UNUSED;
 use crate::machine::{fault_of, Access, Fault, Machine, HANDLERS, NOWHERE, SAVED};
 use crate::menu::{Deed, Event};
 
-/// Partitions whose programs may be any, and the words that are left out: those of pages, but for some that are seen.
+/// Partitions whose programs may be any, and the words that are left out: those of pages, but for some that are seen;
+/// and entries of their handler tables of which the class is seen, with the rows by which it is one: of each the
+/// partition, the virtual page, the page, and the rights.
 #[derive(Default)]
 pub struct Blind {
-    pub own: HashSet<u32>,
-    pub pages: HashSet<u32>,
-    pub seen: HashSet<(u32, u32)>,
+    pub own: Vec<u32>,
+    pub pages: Vec<u32>,
+    pub seen: Vec<(u32, u32)>,
+    pub entries: Vec<(u32, u32)>,
+    pub rows: Vec<[u32; 4]>,
     /// How many lines of each kind there were.
-    pub lines: [usize; 3],
+    pub lines: [usize; 5],
 }
 
 impl Blind {
     pub fn is_asked(&self) -> bool {
-        self.lines != [0; 3]
+        self.lines != [0; 5]
     }
 
-    fn has(&self, place: u32) -> bool {
+    /// A word of these pages, but for those that are seen.
+    fn is_blind(&self, place: u32) -> bool {
         self.pages.contains(&(place / WORDS)) && !self.seen.contains(&(place / WORDS, place % WORDS))
     }
 
-    fn misses_block(&self, place: u32) -> bool {
-        !(place..place + 17).any(|place| self.has(place))
+    /// The partition of which a word is an entry whose class is seen.
+    fn owner(&self, place: u32) -> Option<u32> {
+        let is_table = |name| {
+            let mut rows = self.rows.iter();
+            rows.any(|&[owner, at, page, _]| owner == name && at == HANDLERS / PAGE && page == place / WORDS)
+        };
+        let mut entries = self.entries.iter();
+        entries.find(|&&(name, vector)| vector == place % WORDS && is_table(name)).map(|entry| entry.0)
+    }
+
+    fn sees(&self, place: u32) -> bool {
+        self.owner(place).is_none() && !self.is_blind(place)
+    }
+
+    fn has(&self, place: u32) -> bool {
+        self.owner(place).is_none() && self.is_blind(place)
+    }
+
+    fn sees_block(&self, place: u32) -> bool {
+        (place..place + 17).all(|place| self.sees(place))
     }
 
     fn has_block(&self, place: u32) -> bool {
@@ -79,8 +100,11 @@ impl Look<'_> {
     }
 
     fn entry(&self, part: u32, vector: u32) -> bool {
-        let place = self.reached(part, HANDLERS + 4 * vector, Access::Load, true);
-        !place.is_ok_and(|place| self.blind.has(place))
+        let Ok(place) = self.reached(part, HANDLERS + 4 * vector, Access::Load, true) else { return true };
+        match self.blind.owner(place) {
+            None => !self.blind.is_blind(place),
+            Some(owner) => self.blind.own.contains(&part) && self.has_rows(part, owner),
+        }
     }
 
     // Handlers, and saves
@@ -90,7 +114,7 @@ impl Look<'_> {
             return true;
         }
         let block = self.world.block(part, vector);
-        let is_missed = || block.is_none_or(|(place, _)| self.blind.misses_block(place));
+        let is_missed = || block.is_none_or(|(place, _)| self.blind.sees_block(place));
         self.entry(part, vector) && (self.blind.own.contains(&part) || is_missed())
     }
 
@@ -125,13 +149,16 @@ impl Look<'_> {
 
     fn load(&self, part: u32, address: u32, access: Access, is_word: bool) -> bool {
         match self.reached(part, address, access, is_word) {
-            Ok(place) => !self.blind.has(place),
+            Ok(place) => self.blind.sees(place),
             Err(fault) => self.fault(part, fault),
         }
     }
 
     fn store(&self, part: u32, address: u32, is_word: bool) -> bool {
-        self.reached(part, address, Access::Store, is_word).err().is_none_or(|fault| self.fault(part, fault))
+        match self.reached(part, address, Access::Store, is_word) {
+            Ok(place) => is_word || self.blind.owner(place).is_none(),
+            Err(fault) => self.fault(part, fault),
+        }
     }
 
     fn call(&self, part: u32, number: u32, x: [u32; 5]) -> bool {
@@ -149,7 +176,7 @@ impl Look<'_> {
     fn chain(&self, part: u32, mut address: u32) -> bool {
         for _ in 0..3 {
             let row = self.world.frames.row(part, address);
-            if self.blind.has(row / PAGE * WORDS) {
+            if !self.blind.sees(row / PAGE * WORDS) {
                 return false;
             }
             address = if row & USER != 0 { self.world.frames.get(row / PAGE, 0) } else { 0 };
@@ -195,17 +222,31 @@ impl Look<'_> {
 
     // Partitions
 
-    /// One of those whose programs may be any, without children, with fewer than five pages to read and write.
+    /// One of those whose programs may be any, without children.
     fn is_confined(&self, part: u32) -> bool {
         let frames = &self.world.frames;
-        let (mut children, mut writable) = (0, 0);
+        let mut children = 0;
         for slot in 0..frames.get(part, TABLES) {
             let (page, at) = frames.slot(part, slot);
-            let rows = frames.frame(frames.get(page, at + 1));
-            writable += rows.iter().filter(|&row| row & (READ | WRITE) == READ | WRITE).count();
             let kinds = frames.frame(frames.get(page, at + 3));
             children += kinds.iter().filter(|&kind| kind % PAGE == DESCRIPTOR).count();
         }
-        self.blind.own.contains(&part) && part != ROOT && children == 0 && writable < 5
+        self.blind.own.contains(&part) && part != ROOT && children == 0
+    }
+
+    /// A partition has exactly the rows that are named of another, and none of their pages is hidden.
+    fn has_rows(&self, part: u32, owner: u32) -> bool {
+        let frames = &self.world.frames;
+        let named = || self.blind.rows.iter().filter(|row| row[0] == owner);
+        let mut count = 0;
+        for slot in 0..frames.get(part, TABLES) {
+            let (page, at) = frames.slot(part, slot);
+            count += frames.frame(frames.get(page, at + 1)).iter().filter(|&&row| row & READ != 0).count();
+        }
+        let rises = named().zip(named().skip(1)).all(|(row, next)| row[1] < next[1]);
+        rises && count == named().count() && named().all(|&[_, at, page, rights]| {
+            let row = if at < 1 << 20 { frames.row(part, at * PAGE) } else { 0 };
+            row & USER != 0 && row / PAGE == page && row / READ & 7 == rights
+        })
     }
 }

@@ -11,8 +11,9 @@ use crate::Stop;
 const MOST_DEEDS: usize = 1024;
 const MOST_LABELS: usize = 16;
 const MOST_LINES: u32 = 65536;
-/// Lines `any`, `free` and `seen`.
-const MOST_LEFT_OUT: [usize; 3] = [64, 256, 256];
+/// The words that leave something out, how many lines there may be of each, and how many numbers follow it.
+const LEFT_OUT: [(&[u8], usize, usize); 5] =
+    [(b"any", 64, 1), (b"free", 256, 1), (b"seen", 256, 2), (b"entry", 256, 2), (b"row", 256, 4)];
 
 /// What a partition of this name may do, or without one each but the root.
 pub struct Deed {
@@ -90,9 +91,9 @@ impl Menu {
             labels.push(label.to_vec());
             return Ok(());
         }
-        if let Some(kind) = [&b"any"[..], b"free", b"seen"].iter().position(|word| *word == who) {
+        if let Some(kind) = LEFT_OUT.iter().position(|(word, _, _)| *word == who) {
             self.leave_out(kind, &mut words).ok_or_else(|| bad("what"))?;
-            if self.blind.lines[kind] > MOST_LEFT_OUT[kind] || self.lines > MOST_LINES {
+            if self.blind.lines[kind] > LEFT_OUT[kind].1 || self.lines > MOST_LINES {
                 return Err(bad("many"));
             }
             return Ok(());
@@ -113,15 +114,20 @@ impl Menu {
 
 impl Menu {
     fn leave_out(&mut self, kind: usize, words: &mut Words) -> Option<()> {
-        let page = number(words.next()?)?;
-        let index = if kind == 2 { number(words.next()?).filter(|&index| index < WORDS)? } else { 0 };
-        if words.next().is_some() {
+        let mut x = [0; 4];
+        for place in &mut x[..LEFT_OUT[kind].2] {
+            *place = number(words.next()?)?;
+        }
+        if words.next().is_some() || kind == 2 && x[1] >= WORDS {
             return None;
         }
+        let blind = &mut self.blind;
         match kind {
-            0 => self.blind.own.insert(page),
-            1 => self.blind.pages.insert(page),
-            _ => self.blind.seen.insert((page, index)),
+            0 => blind.own.push(x[0]),
+            1 => blind.pages.push(x[0]),
+            2 => blind.seen.push((x[0], x[1])),
+            3 => blind.entries.push((x[0], x[1])),
+            _ => blind.rows.push(x),
         };
         self.blind.lines[kind] += 1;
         Some(())

@@ -1,24 +1,24 @@
 use Rattle.std.proofs.Common.{◌≡◌, ◌∙◌, ◌-◌, ap, arith, sym}
-use Rattle.pip_guests.specs.Tests as tests
-use Rattle.pip_away.specs.Blind.{blind_of}
+use Rattle.pip_guests.specs.Sights as tests
+use Rattle.pip_away.specs.Blind.{sight_of}
 use Rattle.pip_away.proofs.Calling.{chain_met, chain_passed}
 use Rattle.pip_away.proofs.calls.chain_misses.Goals as goal
 
-pub returns-then-has : goal.returns-then-has
-returns-then-has g c t x s laid found =
-    chain_met (blind_of c.args.blind.now) t c.args.part c.args.first c.loop-i.at c.loop-i._i c.link_at-link.result.0
+pub returns-then-not-sees : goal.returns-then-not-sees
+returns-then-not-sees g c t x s laid found =
+    chain_met (sight_of c.args.blind.now) t c.args.part c.args.first c.loop-i.at c.loop-i._i c.link_at-link.result.0
     (c.loop-i.invariant t x s laid found) c.loop-i-test.true (c.link_at-link.ensures.page t x s laid found)
-    (sym c.has.ensures ∙ c.if-has.true)
+    (sym c.sees.ensures ∙ c.if-not-sees.true)
 
 pub loop-i-preserved : goal.loop-i-preserved
 loop-i-preserved g c t x s laid found =
-    chain_passed (blind_of c.args.blind.now) t c.args.part c.args.first c.loop-i.at c.loop-i._i
+    chain_passed (sight_of c.args.blind.now) t c.args.part c.args.first c.loop-i.at c.loop-i._i
     c.link_at-link.result.0 (c.loop-i.invariant t x s laid found) c.loop-i-test.true
-    (c.link_at-link.ensures.page t x s laid found) (sym c.has.ensures ∙ c.if-has.false) c.link_at-link.result.1
+    (c.link_at-link.ensures.page t x s laid found) (sym c.sees.ensures ∙ c.if-not-sees.false) c.link_at-link.result.1
     (c.link_at-link.ensures.next t x s laid found)
 
 pub returns : goal.returns
 returns g c t x s laid found =
     let end : c.loop-i._i ≡ 3 = omega arith in
     sym (c.loop-i.invariant t x s laid found
-    ∙ ap (λ n. tests.chain_misses (blind_of c.args.blind.now) t c.args.part (3 - n) c.loop-i.at) end)
+    ∙ ap (λ n. tests.chain_passes (sight_of c.args.blind.now) t c.args.part (3 - n) c.loop-i.at) end)

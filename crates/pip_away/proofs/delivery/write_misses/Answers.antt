@@ -1,18 +1,18 @@
 use Rattle.std.proofs.Common.{◌∙◌, ap, sym}
-use Rattle.pip_guests.specs.Tests as tests
+use Rattle.pip_guests.specs.Sights as tests
 use Rattle.pip_switch.specs.Plain.{plain_world}
-use Rattle.pip_away.specs.Blind.{blind_of}
+use Rattle.pip_away.specs.Blind.{sight_of}
 use Rattle.pip_away.proofs.Reading.{faulted_there, reached_there}
 use Rattle.pip_away.proofs.delivery.write_misses.Goals as goal
 
 pub returns-in-Ok : goal.returns-in-Ok
-returns-in-Ok g c t x s laid found q is = sym (ap (tests.store_misses c.args.blind.now.own.items
-    (blind_of c.args.blind.now) (plain_world t c.args.cpus.now) c.args.part)
-    (reached_there q c.in-Ok.field-0 (sym c.in-Ok.is ∙ is)))
+returns-in-Ok g c t x s laid found q is = c.stores.ensures ∙ sym (ap (tests.store_passes c.args.blind.now.own.items
+    (sight_of c.args.blind.now) (plain_world t c.args.cpus.now) c.args.part c.args.size)
+    (reached_there q c.in-Ok.place (sym c.in-Ok.is ∙ is)))
 
 pub returns-in-Err : goal.returns-in-Err
 returns-in-Err g c t x s laid found q is = c.delivery_misses.ensures t x s laid found
-    ∙ ap (tests.delivery_misses c.args.blind.now.own.items (blind_of c.args.blind.now)
+    ∙ ap (tests.delivery_passes c.args.blind.now.own.items (sight_of c.args.blind.now)
     (plain_world t c.args.cpus.now) c.args.part) c.vector_of.ensures
-    ∙ sym (ap (tests.store_misses c.args.blind.now.own.items (blind_of c.args.blind.now) (plain_world t c.args.cpus.now)
-    c.args.part) (faulted_there q c.in-Err.fault (sym c.in-Err.is ∙ is)))
+    ∙ sym (ap (tests.store_passes c.args.blind.now.own.items (sight_of c.args.blind.now) (plain_world t c.args.cpus.now)
+    c.args.part c.args.size) (faulted_there q c.in-Err.fault (sym c.in-Err.is ∙ is)))

@@ -1,6 +1,6 @@
 use Rattle.std.proofs.Common.{◌≡◌, ◌∙◌, refl, sym}
-use Rattle.pip_guests.specs.Tests as tests
-use Rattle.pip_away.specs.Blind.{blind_of}
+use Rattle.pip_guests.specs.Sights as tests
+use Rattle.pip_away.specs.Blind.{sight_of}
 use Rattle.pip_model.specs.Answers.{five_of}
 use Rattle.pip_model.specs.Happens.{call_named}
 use Rattle.pip_away.proofs.OnMachines.{none_runs, part_here, test_here, told_here}
@@ -18,10 +18,10 @@ pub returns-in-Some : goal.returns-in-Some
 returns-in-Some g c w s =
     test_here c.args.machine.now w s _ c.mem.ensures c.args.cpu c.in-Some.part
     (sym (c.runs.ensures w s) ∙ c.in-Some.is) _
-    (λ p. tests.call_misses c.args.blind.now.own.items (blind_of c.args.blind.now) w.tree p (five_of
+    (λ p. tests.call_passes c.args.blind.now.own.items (sight_of c.args.blind.now) w.tree p (five_of
     c.args.args.now) (call_named c.args.number)) (λ r. refl)
     c.call_misses.result (told_here c.args.machine.now w s _ c.mem.ensures c.args.cpu c.in-Some.part
     (sym (c.runs.ensures w s) ∙ c.in-Some.is)
-    (λ t. c.call_misses.result ≡ tests.call_misses c.args.blind.now.own.items (blind_of c.args.blind.now) t
+    (λ t. c.call_misses.result ≡ tests.call_passes c.args.blind.now.own.items (sight_of c.args.blind.now) t
     c.in-Some.part (five_of c.args.args.now)
     (call_named c.args.number)) c.call_misses.ensures)

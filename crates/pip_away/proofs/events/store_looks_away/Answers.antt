@@ -1,6 +1,6 @@
 use Rattle.std.proofs.Common.{◌≡◌, ◌∙◌, refl, sym}
-use Rattle.pip_guests.specs.Tests as tests
-use Rattle.pip_away.specs.Blind.{blind_of}
+use Rattle.pip_guests.specs.Sights as tests
+use Rattle.pip_away.specs.Blind.{sight_of}
 use Rattle.pip_base.specs.declared.types.Access.TheVariants.{Store}
 use Rattle.pip_model.specs.Reach.{reach}
 use Rattle.pip_switch.specs.Plain.{plain_world}
@@ -24,14 +24,15 @@ pub returns-in-Some : goal.returns-in-Some
 returns-in-Some g c w word s =
     let away = told_here c.args.machine.now w s _ c.mem-mem.ensures c.args.cpu c.in-Some.part
     (sym (c.runs.ensures w s) ∙ c.in-Some.is)
-    (λ t. c.write_misses.result ≡ tests.store_misses c.args.blind.now.own.items (blind_of c.args.blind.now)
-    (plain_world t c.processors.result.now) c.in-Some.part
+    (λ t. c.write_misses.result ≡ tests.store_passes c.args.blind.now.own.items (sight_of c.args.blind.now)
+    (plain_world t c.processors.result.now) c.in-Some.part c.args.size
     (reach t c.in-Some.part c.args.va Store c.args.size))
     (λ t x sound laid found. c.write_misses.ensures t x sound laid found _
     (c.locate-found.ensures.place t x sound laid found)) in
     test_here c.args.machine.now w s _ c.mem-mem.ensures c.args.cpu c.in-Some.part
     (sym (c.runs.ensures w s) ∙ c.in-Some.is) _
-    (λ p. tests.store_misses c.args.blind.now.own.items (blind_of c.args.blind.now) w p (reach w.tree p c.args.va
+    (λ p. tests.store_passes c.args.blind.now.own.items (sight_of c.args.blind.now) w p c.args.size (reach w.tree p
+    c.args.va
     Store c.args.size)) (λ r. refl) c.write_misses.result
-    (away ∙ store_same c.args.blind.now.own.items (blind_of c.args.blind.now) w c.processors.result.now
-    (c.processors.ensures ∙ sym s.bare.shows.cpus) c.in-Some.part _)
+    (away ∙ store_same c.args.blind.now.own.items (sight_of c.args.blind.now) w c.processors.result.now
+    (c.processors.ensures ∙ sym s.bare.shows.cpus) c.in-Some.part c.args.size _)

@@ -1,6 +1,6 @@
 use Rattle.std.proofs.Common.{◌≡◌, ◌∙◌, refl, sym}
-use Rattle.pip_guests.specs.Tests as tests
-use Rattle.pip_away.specs.Blind.{blind_of}
+use Rattle.pip_guests.specs.Sights as tests
+use Rattle.pip_away.specs.Blind.{sight_of}
 use Rattle.pip_switch.specs.Plain.{plain_world}
 use Rattle.pip_away.proofs.OnMachines.{delivery_same, none_runs, part_here, test_here, told_here}
 use Rattle.pip_away.proofs.events.trap_looks_away.Goals as goal
@@ -17,13 +17,13 @@ pub returns-in-Some : goal.returns-in-Some
 returns-in-Some g c w a b s =
     test_here c.args.machine.now w s _ c.mem.ensures c.args.cpu c.in-Some.part
     (sym (c.runs.ensures w s) ∙ c.in-Some.is) _
-    (λ p. tests.delivery_misses c.args.blind.now.own.items (blind_of c.args.blind.now) w p c.args.vector) (λ r.
+    (λ p. tests.delivery_passes c.args.blind.now.own.items (sight_of c.args.blind.now) w p c.args.vector) (λ r.
     refl) c.delivery_misses.result
     (told_here c.args.machine.now w s _ c.mem.ensures c.args.cpu c.in-Some.part
     (sym (c.runs.ensures w s) ∙ c.in-Some.is)
-    (λ t. c.delivery_misses.result ≡ tests.delivery_misses c.args.blind.now.own.items (blind_of c.args.blind.now)
+    (λ t. c.delivery_misses.result ≡ tests.delivery_passes c.args.blind.now.own.items (sight_of c.args.blind.now)
     (plain_world t c.processors.result.now) c.in-Some.part
     c.args.vector) c.delivery_misses.ensures
-    ∙ delivery_same c.args.blind.now.own.items (blind_of c.args.blind.now) w c.processors.result.now
+    ∙ delivery_same c.args.blind.now.own.items (sight_of c.args.blind.now) w c.processors.result.now
     (c.processors.ensures ∙ sym s.bare.shows.cpus) c.in-Some.part
     c.args.vector)

@@ -2,31 +2,34 @@ use Rattle.std.proofs.Common.{◌∙◌, ap, cond, sym, true}
 use Rattle.pip_base.specs.declared.types.Access.TheVariants.{Store}
 use Rattle.pip_base.specs.declared.types.Size.TheVariants.{Word}
 use Rattle.pip_model.specs.Reach.{reach}
-use Rattle.pip_guests.specs.Tests as tests
-use Rattle.pip_away.specs.Blind.{blind_of}
+use Rattle.pip_guests.specs.Sights as tests
+use Rattle.pip_away.specs.Blind.{sight_of}
 use Rattle.pip_away.proofs.Reading.{reached_there, save_landed, unreached_lands}
 use Rattle.pip_away.proofs.handlers.save_lands.Goals as goal
 
 pub returns-then-not-can_begin : goal.returns-then-not-can_begin
 returns-then-not-can_begin g c t x s laid found =
-    sym (save_landed (blind_of c.args.blind.now) t c.args.part c.args.address s
-    ∙ ap (λ b. cond b (tests.lands (blind_of c.args.blind.now) (reach t c.args.part c.args.address Store Word)) true)
+    sym (save_landed (sight_of c.args.blind.now) t c.args.part c.args.address s
+    ∙ ap (λ b. cond b (tests.block_blind (sight_of c.args.blind.now) (reach t c.args.part c.args.address Store Word))
+    true)
     (sym c.can_begin.ensures ∙ c.if-not-can_begin.true))
 
 pub returns-in-Err : goal.returns-in-Err
 returns-in-Err g c t x s laid found =
-    unreached_lands (blind_of c.args.blind.now) t c.args.part c.args.address
+    unreached_lands (sight_of c.args.blind.now) t c.args.part c.args.address
     (reach t c.args.part c.args.address Store Word) c.in-Err.field-0
     (sym c.in-Err.is ∙ c.locate.ensures.place t x s laid found)
-    ∙ sym (save_landed (blind_of c.args.blind.now) t c.args.part c.args.address s
-    ∙ ap (λ b. cond b (tests.lands (blind_of c.args.blind.now) (reach t c.args.part c.args.address Store Word)) true)
+    ∙ sym (save_landed (sight_of c.args.blind.now) t c.args.part c.args.address s
+    ∙ ap (λ b. cond b (tests.block_blind (sight_of c.args.blind.now) (reach t c.args.part c.args.address Store Word))
+    true)
     (sym c.can_begin.ensures ∙ c.if-not-can_begin.false))
 
 pub returns-in-Ok : goal.returns-in-Ok
 returns-in-Ok g c t x s laid found =
     c.has_block.ensures
-    ∙ sym (save_landed (blind_of c.args.blind.now) t c.args.part c.args.address s
-    ∙ ap (λ b. cond b (tests.lands (blind_of c.args.blind.now) (reach t c.args.part c.args.address Store Word)) true)
+    ∙ sym (save_landed (sight_of c.args.blind.now) t c.args.part c.args.address s
+    ∙ ap (λ b. cond b (tests.block_blind (sight_of c.args.blind.now) (reach t c.args.part c.args.address Store Word))
+    true)
     (sym c.can_begin.ensures ∙ c.if-not-can_begin.false)
-    ∙ ap (tests.lands (blind_of c.args.blind.now)) (reached_there (reach t c.args.part c.args.address Store Word)
+    ∙ ap (tests.block_blind (sight_of c.args.blind.now)) (reached_there (reach t c.args.part c.args.address Store Word)
     c.in-Ok.found (sym c.in-Ok.is ∙ c.locate.ensures.place t x s laid found)))

@@ -1,5 +1,5 @@
 use Rattle.std.proofs.Common.{◌≡◌, ◌∙◌, true, subst}
-use Rattle.pip_away.specs.Blind.{is_left_out, left_out}
+use Rattle.pip_away.specs.Blind.{sight_in, left_out}
 use Rattle.pip_every.specs.Away.{looks_away}
 use Rattle.pip_every.specs.Explored.{explored}
 use Rattle.pip_every.specs.Keys.{IsKeyOf}
@@ -15,6 +15,6 @@ loop-cpu-preserved g c =
       base = c.passes.ensures.base ∙ was.base;
       passes = λ m k. passes_more o (explored c.args.explorer.now) m.world cpu (was.passes m k)
           (subst (λ e. IsKeyOf g.F.First.words e.scope c.args.key.now m
-          → looks_away o.own (is_left_out o) e m.world cpu ≡ true) was.base
+          → looks_away o.own (sight_in o) e m.world cpu ≡ true) was.base
           (λ own. rw (← c.passes.ensures.passes m own) c.if-not-passes.false) k);
     }

@@ -1,16 +1,16 @@
 use Rattle.std.proofs.Common.{◌∙◌, sym}
-use Rattle.pip_away.specs.Blind.{blind_of}
+use Rattle.pip_away.specs.Blind.{sight_of}
 use Rattle.pip_every.proofs.OnStates.{load_answered, load_faults}
 use Rattle.pip_every.proofs.looking.deed_looks_away.Goals as goal
 
 pub returns-then-load_answers : goal.returns-then-load_answers
-returns-then-load_answers g c w s = load_answered c.args.blind.now.own.items (blind_of c.args.blind.now) w
+returns-then-load_answers g c w s = load_answered c.args.blind.now.own.items (sight_of c.args.blind.now) w
     c.args.cpu c.args.deed.now _ _ c.in-Load.is
     c.load_answers.result (c.load_answers.ensures w s) c.if-load_answers.true
 
 pub returns-else-load_answers : goal.returns-else-load_answers
 returns-else-load_answers g c w s = c.load_looks_away.ensures w s
-    ∙ load_faults c.args.blind.now.own.items (blind_of c.args.blind.now) w c.args.cpu c.args.deed.now _ _ c.in-Load.is
+    ∙ load_faults c.args.blind.now.own.items (sight_of c.args.blind.now) w c.args.cpu c.args.deed.now _ _ c.in-Load.is
     c.load_answers.result (c.load_answers.ensures w s) c.if-load_answers.false
 
 pub returns-in-StoreWord : goal.returns-in-StoreWord

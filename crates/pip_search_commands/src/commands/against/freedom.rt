@@ -1,8 +1,8 @@
 //! A line of a menu that says which words are left out.
-ghost use Rattle.std.specs.Prelude.{◌≡◌};
-ghost use Rattle.pip_search_commands.specs.MenuText.{freedom_of, last_number, seen_said};
+ghost use Rattle.std.specs.Prelude.{◌≡◌, option_map};
+ghost use Rattle.pip_search_commands.specs.MenuText.{freedom_of, last_number, next_number, row_said, two_numbers};
 
-use pip_away::PageWord;
+use pip_away::{Entry, OwnRow, PageWord};
 use pip_script::{read_number, split_word};
 
 /// What is left out of what others may read, or isn't.
@@ -14,6 +14,10 @@ pub enum Freedom {
     Page { page: u32 },
     /// But for this word, whose index is below 1024: `seen`.
     Seen { word: PageWord },
+    /// And of this entry the class is seen: `entry`.
+    Entry { entry: Entry },
+    /// By this row and those of the same partition: `row`.
+    Row { row: OwnRow },
 }
 
 /// What a line leaves out, by its first word and by what follows that word. None where the word leaves nothing out;
@@ -34,7 +38,23 @@ pub fn read_freedom(word: &[u8], rest: &[u8]) -> Option<Option<Freedom>>
         });
     }
     if word == b"seen".as_slice() {
-        return Some(read_seen(rest));
+        return Some(match read_two(rest) {
+            Some((page, index)) if index < 1024 => Some(Freedom::Seen {
+                word: PageWord { page, index },
+            }),
+            _ => None,
+        });
+    }
+    if word == b"entry".as_slice() {
+        return Some(match read_two(rest) {
+            Some((name, vector)) => Some(Freedom::Entry {
+                entry: Entry { name, vector },
+            }),
+            None => None,
+        });
+    }
+    if word == b"row".as_slice() {
+        return Some(read_row(rest));
     }
     None
 }
@@ -49,21 +69,40 @@ fn read_last(rest: &[u8]) -> Option<u32>
     }
 }
 
-// The word of a page that two numbers say which follow a word.
-fn read_seen(rest: &[u8]) -> Option<Freedom>
-    ensures { result ≡ seen_said rest.now }
+// The number that follows a space, and what follows it.
+fn read_next(rest: &[u8]) -> Option<(u32, &[u8])>
+    ensures { option_map (λ r. (r.0, r.1.now)) result ≡ next_number rest.now }
 {
     let [_, text @ ..] = rest else {
         return None;
     };
     let (word, more) = split_word(text);
-    let page = read_number(word)?;
-    let index = read_last(more)?;
-    if index < 1024 {
-        Some(Freedom::Seen {
-            word: PageWord { page, index },
-        })
-    } else {
-        None
-    }
+    let number = read_number(word)?;
+    Some((number, more))
+}
+
+// The two numbers that follow a word, up to the end of the line.
+fn read_two(rest: &[u8]) -> Option<(u32, u32)>
+    ensures { result ≡ two_numbers rest.now }
+{
+    let (first, more) = read_next(rest)?;
+    let second = read_last(more)?;
+    Some((first, second))
+}
+
+// The row that four numbers say.
+fn read_row(rest: &[u8]) -> Option<Freedom>
+    ensures { result ≡ row_said (next_number rest.now) }
+{
+    let (name, rest) = read_next(rest)?;
+    let (at, rest) = read_next(rest)?;
+    let (page, rights) = read_two(rest)?;
+    Some(Freedom::Row {
+        row: OwnRow {
+            name,
+            at,
+            page,
+            rights,
+        },
+    })
 }

@@ -181,6 +181,8 @@ fn add_freedom(menu: &mut ReadMenu, number: u32, freedom: Freedom) -> Result<(),
         Freedom::Program { .. } => blind.own.is_full(),
         Freedom::Page { .. } => blind.pages.is_full(),
         Freedom::Seen { .. } => blind.seen.is_full(),
+        Freedom::Entry { .. } => blind.entries.is_full(),
+        Freedom::Row { .. } => blind.rows.is_full(),
     };
     if number > MAX_MENU_LINES || is_full {
         return Err(MenuKind::Many);
@@ -189,6 +191,8 @@ fn add_freedom(menu: &mut ReadMenu, number: u32, freedom: Freedom) -> Result<(),
         Freedom::Program { name } => blind.own.push(name),
         Freedom::Page { page } => blind.pages.push(page),
         Freedom::Seen { word } => blind.seen.push(word),
+        Freedom::Entry { entry } => blind.entries.push(entry),
+        Freedom::Row { row } => blind.rows.push(row),
     }
     Ok(())
 }

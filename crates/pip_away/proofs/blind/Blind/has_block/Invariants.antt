@@ -1,9 +1,9 @@
 use Rattle.std.proofs.Common.{◌≡◌, ◌+◌, ◌-◌}
-use Rattle.pip_guests.specs.Tests.{all_from}
-use Rattle.pip_away.specs.Blind.{blind_of}
+use Rattle.pip_guests.specs.Sights.{each_from}
+use Rattle.pip_away.specs.Blind.{sight_of}
 use Rattle.pip_away.proofs.blind.Blind.has_block.Given as goal
 
 -- those after the words that were looked at decide
 abbrev pub invariant-loop-j : goal.invariant-loop-j
-invariant-loop-j l = all_from (λ j. blind_of l.self l.page j) 17 l.index
-    ≡ all_from (λ j. blind_of l.self l.page j) (17 - l.j) (l.index + l.j)
+invariant-loop-j l = each_from (λ j. (sight_of l.self).blind l.page j) 17 l.index
+    ≡ each_from (λ j. (sight_of l.self).blind l.page j) (17 - l.j) (l.index + l.j)
