@@ -145,7 +145,7 @@ class Figures:
         yield "the same by `tree`, without its trace", self.step(monitor, "tree", "STEPS", "1")
         for what, name in (("a step that computes, in a loop of eight instructions", "computes.s"),
                            ("a step of a program of seven loads and stores and a branch", "accesses.s")):
-            yield what, self.step(self.assembled(name, "bench"), "run", "STEPS", "1")
+            yield what, self.step(self.assembled(name, "dev/bench"), "run", "STEPS", "1")
         yield "a step of `native 3` over `examples/native.s`", \
             self.step(self.assembled("native.s"), "native", "3", "STEPS")
         yield "a step of `native 2` over `examples/preempted_beside_a_loop.s`", \

@@ -110,8 +110,8 @@ def nothing(program: Counted) -> bytes:
 # By what the rows of docs/PERFORMANCE.md are about: the words of a command, and its input
 TIMES: dict[str, tuple[str, Input]] = {
     "ten million steps of the monitor by `run`": ("run 2000000 1", example("monitor.s")),
-    "ten million steps of a loop of eight instructions by `run`": ("run 2000000 1", example("computes.s", "bench")),
-    "of seven loads and stores and a branch": ("run 2000000 1", example("accesses.s", "bench")),
+    "ten million steps of a loop of eight instructions by `run`": ("run 2000000 1", example("computes.s", "dev/bench")),
+    "of seven loads and stores and a branch": ("run 2000000 1", example("accesses.s", "dev/bench")),
     "100,000 pairs of createPartition and deletePartition": (
         "script", lambda program: script(BOOT, f"call 0 0 {FIVE}\ncall 0 1 0x401000", 100000 // PART)),
     "two million lines `li` assembled": ("asm", many_lines),
@@ -143,8 +143,8 @@ WORST: dict[tuple[str, str], Input] = {
     ("core 0 1", "the same"): full_image("addi r10 r11 -12"),
     ("every 20000", "`fill`: an image that stores a word in one place after the other"): image_of("fill"),
     ("every 200000", "`dev/bench/collide.asmx`, chosen against hashes without folded products"):
-        macros("bench", "collide.asmx"),
-    ("every 200000", "`dev/bench/spread.asmx`, the same with other registers"): macros("bench", "spread.asmx"),
+        macros("dev", "bench", "collide.asmx"),
+    ("every 200000", "`dev/bench/spread.asmx`, the same with other registers"): macros("dev", "bench", "spread.asmx"),
     ("every 1000000", "`examples/monitor.s`"): example("monitor.s"),
     ("every 1000000", "`examples/retry.s`, on two processors"): example("retry.s"),
     ("every 1000000 after 2100 1", "`examples/two_guests.s`: 224,536 states, where `apart` has 508 + 442 in less than "
