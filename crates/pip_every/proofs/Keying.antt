@@ -60,7 +60,7 @@ pub record HasRead (first : Memory) (n : ℕ) (cpus : List (Option Occupant)) (w
   pub world : HasWorld (rewritten first words) cpus
 
 -- the words after the first are those of the processors, and then of the memory
-key_begins : {first : Memory} {g : Scope} {key : List ℕ} {m : Moment} {n : ℕ} → IsMemory first
+pub key_begins : {first : Memory} {g : Scope} {key : List ℕ} {m : Moment} {n : ℕ} → IsMemory first
     → (k : IsKeyOf first g key m) → n ≡ g.cpus
     → StartsWithAll (take (length key - 1) (drop 1 key)) n m.world.cpus (changes first k.memory)
 key_begins {first} {g} {key} {m} {n} shape k same =

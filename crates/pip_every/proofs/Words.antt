@@ -1,12 +1,14 @@
 -- The words of what runs on processors are written and read one processor after another.
-use Rattle.std.proofs.Common.{◌≡◌, ℕ, zero, suc, ◌+◌, ◌-◌, ◌<◌, ◌≤◌, List, [], ◌∷◌, ◌++◌, length, take, drop}
-use Rattle.std.proofs.Common.{replicate, slice_index, Option, Some, None, refl, ◌∙◌, arith}
+use Rattle.std.proofs.Common.{◌≡◌, ℕ, zero, suc, ◌+◌, ◌-◌, ◌^◌, ◌<◌, ◌≤◌, List, [], ◌∷◌, ◌++◌, length, take, drop}
+use Rattle.std.proofs.Common.{replicate, slice_get, slice_index, Option, Some, None, refl, sym, ap, subst, ◌∙◌, arith}
+use Rattle.std.specs.Prelude.{option_map, unwrap_or}
 use Rattle.std.proofs.Common.{append_assoc, length-append}
 use Rattle.std.specs.List.{AllByRecursion}
 use Rattle.std.proofs.Math.Seq.{drop-append_seam, take-append_seam}
 use Rattle.std.proofs.lemmas.Grind.{take_at_read}
 use Rattle.std.proofs.lemmas.List.{length-take-le}
 use Rattle.pip_model.specs.declared.processors.Occupant.{Occupant}
+use Rattle.pip_switch.specs.Occupied.{part_on}
 use Rattle.pip_every.specs.Keys.{processor_words, running_words, used, used_with}
 use Rattle.pip_every.specs.Reading.{StartsWithOne, StartsWithAll, MayRun, HoldRegisters, read_occupant}
 
@@ -162,6 +164,75 @@ read_next words count k cpus more runs left after lt is reads h os rest b =
         record { run = s.run; count_is = s.count; whole = r.1 },
       ),
     )
+
+-- what is known where those before number k were passed by
+abbrev pub IsPassing : List ℕ → ℕ → ℕ → List ℕ → Type 0
+IsPassing words count k left = (os : List (Option Occupant)) (rest : List ℕ) → StartsWithAll words count os rest
+    → (others : List (Option Occupant)) × (((j : ℕ) → slice_get os (k + j) ≡ slice_get others j)
+    × StartsWithAll left (count - k) others rest)
+
+-- none was
+pub passed_none : (words : List ℕ) (count : ℕ) → IsPassing words count 0 words
+passed_none words count os rest b =
+    let all : length os ≡ count = b.count_is in (
+      os,
+      (
+        (λ j. let own : 0 + j ≡ j = omega arith in ap (slice_get os) own),
+        record { run = b.run; count_is = omega arith; whole = b.whole },
+      ),
+    )
+
+-- one more was
+pub pass_next : (words : List ℕ) (count k : ℕ) (left after : List ℕ) → k < count
+    → ((o : Option Occupant) (rest : List ℕ) → StartsWithOne left o rest → after ≡ rest)
+    → IsPassing words count k left → IsPassing words count (k + 1) after
+pass_next words count k left after lt passes h os rest b =
+    let at = h os rest b in
+    let s : Splits left count k at.0 rest = splits left count k at.0 rest lt at.1.1 in
+    let r : after ≡ processor_words s.others ++ rest = passes s.first (processor_words s.others ++ rest) s.begins in (
+      s.others,
+      (
+        (λ j. let more : k + 1 + j ≡ k + suc j = omega arith in
+            ap (slice_get os) more ∙ (at.1.0 (suc j) ∙ ap (λ v. slice_get v (suc j)) s.are)),
+        record { run = s.run; count_is = s.count; whole = r },
+      ),
+    )
+
+-- a name that isn't 0 is a frame
+pub can_name : (ws : List ℕ) → (slice_index ws 0 ≡ 0 → ⊥) → (o : Option Occupant) (rest : List ℕ)
+    → StartsWithOne ws o rest → slice_index ws 0 < 2 ^ 20
+can_name ws some None rest b = absurd (some (rw b.whole))
+can_name ws some (Some q) rest b = rw b.whole b.runs.most
+
+-- the first word says what runs
+pub none_runs : (ws : List ℕ) → slice_index ws 0 ≡ 0 → (o : Option Occupant) (rest : List ℕ)
+    → StartsWithOne ws o rest → None ≡ option_map (λ r. r.name) o
+none_runs ws none None rest b = refl
+none_runs ws none (Some q) rest b =
+    let is : slice_index ws 0 ≡ q.name = rw b.whole in
+    let least = b.runs.least in
+    absurd (omega arith)
+
+pub some_runs : (ws : List ℕ) (name : ℕ) → (slice_index ws 0 ≡ 0 → ⊥) → name ≡ slice_index ws 0
+    → (o : Option Occupant) (rest : List ℕ) → StartsWithOne ws o rest → Some name ≡ option_map (λ r. r.name) o
+some_runs ws name some is None rest b = absurd (some (rw b.whole))
+some_runs ws name some is (Some q) rest b =
+    let own : slice_index ws 0 ≡ q.name = rw b.whole in
+    ap Some (is ∙ own)
+
+-- so it says of the processor up to which all were passed by
+pub name_there : (words : List ℕ) (count k : ℕ) (left : List ℕ) (name : Option ℕ) → k < count
+    → ((o : Option Occupant) (rest : List ℕ) → StartsWithOne left o rest → name ≡ option_map (λ r. r.name) o)
+    → IsPassing words count k left → (os : List (Option Occupant)) (rest : List ℕ) → StartsWithAll words count os rest
+    → name ≡ part_on os k
+name_there words count k left name lt says h os rest b =
+    let at = h os rest b in
+    let s : Splits left count k at.0 rest = splits left count k at.0 rest lt at.1.1 in
+    let here : k + 0 ≡ k = omega arith in
+    let there : slice_get os k ≡ Some s.first =
+    ap (slice_get os) (sym here) ∙ (at.1.0 0 ∙ ap (λ v. slice_get v 0) s.are) in
+    subst (λ v. name ≡ option_map (λ r. r.name) (unwrap_or v None)) (sym there)
+    (says s.first (processor_words s.others ++ rest) s.begins)
 
 -- all were read
 none_left : (left : List ℕ) (others : List (Option Occupant)) (rest : List ℕ) (n : ℕ) → n ≡ 0

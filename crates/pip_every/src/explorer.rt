@@ -231,8 +231,7 @@ impl<F: First, L: Ledger> Explorer<F, L> {
             → IsKeyOf F.words (machine_scope self.now.machine self.now.lines.items self.now.from) key.now m
             → picked (explored self.now) m.world choice ≡ Nothing }
     {
-        let (runs, _) = read_processors(&key[1..], self.machine.cpus());
-        let name = name_at(&runs, self.deed_cpu(choice));
+        let name = name_at(&key[1..], self.machine.cpus(), self.deed_cpu(choice));
         is_its(&name, &self.deed(choice))
     }
 
@@ -390,6 +389,10 @@ impl<F: First, L: Ledger> System for Explorer<F, L> {
 
     fn seed(&self) -> u64 {
         self.seed
+    }
+
+    fn stays(&self, from: &[u32], choice: u32) -> bool {
+        self.changes_nothing(from, choice)
     }
 
     fn make(

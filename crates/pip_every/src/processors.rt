@@ -1,6 +1,6 @@
 //! What runs on processors, as words.
 ghost use Rattle.std.specs.Prelude.{◌≡◌, ◌+◌, ◌-◌, ◌<◌, ◌≤◌, ◌^◌, ◌++◌, ℕ, List, Option, IfOk, length};
-ghost use Rattle.std.specs.Prelude.{replicate, slice_index};
+ghost use Rattle.std.specs.Prelude.{option_map, replicate, slice_index};
 ghost use Rattle.pip_model.specs.declared.processors.Occupant.{Occupant};
 ghost use Rattle.pip_every.specs.Keys as keys;
 ghost use Rattle.pip_every.specs.Keys.{processor_words, running_words};
@@ -111,13 +111,39 @@ pub fn read_processors(words: &[u32], count: u32) -> (Processors, &[u32])
     (cpus, rest)
 }
 
-/// The partition that runs on a processor, if one does.
-pub(crate) fn name_at(cpus: &Processors, cpu: u32) -> Option<Frame>
-    requires { cpu < length cpus.now.items }
-    ensures { result ≡ part_on cpus.now.items cpu }
+// The words after those of what runs on a processor, by words that begin with these.
+fn after_running(words: &[u32]) -> &[u32]
+    requires { (o : Option Occupant) × ((rest : List ℕ) × StartsWithOne words.now o rest) }
+    ensures { (o : Option Occupant) (rest : List ℕ) → StartsWithOne words.now o rest → result.now ≡ rest }
 {
-    match &cpus.as_slice()[cpu as usize] {
-        Some(r) => Some(r.name),
-        None => None,
+    if words[0] == 0 {
+        return &words[1..];
     }
+    &words[3 + words[2] as usize..]
+}
+
+// The partition that runs on a processor, if one does, by words that begin with its own.
+fn first_name(words: &[u32]) -> Option<Frame>
+    requires { (o : Option Occupant) × ((rest : List ℕ) × StartsWithOne words.now o rest) }
+    ensures { (o : Option Occupant) (rest : List ℕ) → StartsWithOne words.now o rest
+        → result ≡ option_map (λ r. r.name) o }
+{
+    if words[0] == 0 {
+        return None;
+    }
+    Some(Frame::new(words[0]))
+}
+
+/// The partition that runs on a processor, if one does, by words that begin with those of `count` processors.
+pub(crate) fn name_at(words: &[u32], count: u32, cpu: u32) -> Option<Frame>
+    requires begins { (os : List (Option Occupant)) × ((rest : List ℕ) × StartsWithAll words.now count os rest) }
+    requires cpu { cpu < count }
+    ensures { (os : List (Option Occupant)) (rest : List ℕ) → StartsWithAll words.now count os rest
+        → result ≡ part_on os cpu }
+{
+    let mut rest = words;
+    for _i in 0..cpu {
+        rest = after_running(rest);
+    }
+    first_name(rest)
 }

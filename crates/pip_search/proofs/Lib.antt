@@ -4,6 +4,8 @@ pub mod Stored
 pub mod Collapsed
 pub mod Steps
 pub mod Making
+pub mod Staying
+pub mod Freshness
 pub mod Telling
 pub mod Tracing
 pub mod Running

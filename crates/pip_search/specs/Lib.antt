@@ -6,6 +6,7 @@ pub mod Packing
 pub mod Storing
 pub mod Collapsing
 pub mod Keys
+pub mod Fresh
 pub mod Growing
 pub mod Began
 pub mod Orders

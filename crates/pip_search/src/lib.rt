@@ -1,15 +1,16 @@
 //! A breadth-first search of a system of states: what can happen there, and what can't. It uses no other crate.
 //!
 //! A [`System`] has states, each with the same number of choices, and keys: lists of words that represent states. Its
-//! method `make` makes a choice, and answers the next key and what the choice showed; `follow` makes those of a way.
-//! What they promise (`LeadsOn`, `LeadsAlong`) is about every state that the key represents, so the search never has to
-//! know what a key means. [`explore`] searches, and [`runs`] gives the runs of equal choices on the way to each label
-//! that it found. What an answer says about a state is `IsTold` of specs/Summary: there a way has its last choice first
-//! (that of `follow` has its first), and comes before another by `IsBefore` of specs/Orders. This requires that no
-//! state has two keys; without that, `Tells` (specs/Reached) explains what was found, and `Ends` (specs/Ending) why the
-//! search ended. Keys are kept as bytes, one to five a word (specs/Packing), one key after another (specs/Storing).
-//! Keys and labels are found by their hashes in a table (specs/Cells); it is proved that it has none twice, whatever
-//! the hash and its seed are.
+//! method `make` makes a choice, and answers the next key and what the choice showed; `follow` makes those of a way,
+//! and `stays` may say of a choice that it changes nothing, so that it needn't be made. What they promise (`LeadsOn`,
+//! `LeadsAlong`) is about every state that the key represents, so the search never has to know what a key means.
+//! [`explore`] searches, and [`runs`] gives the runs of equal choices on the way to each label that it found. What an
+//! answer says about a state is `IsTold` of specs/Summary: there a way has its last choice first (that of `follow` has
+//! its first), and comes before another by `IsBefore` of specs/Orders. This requires that no state has two keys;
+//! without that, `Tells` (specs/Reached) explains what was found, and `Ends` (specs/Ending) why the search ended. Keys
+//! are kept as bytes, one to five a word (specs/Packing), one key after another (specs/Storing). Keys and labels are
+//! found by their hashes in a table (specs/Cells); it is proved that it has none twice, whatever the hash and its seed
+//! are.
 //!
 //! Of a search that closed [`come_again`] says whether a label can come again wherever choices lead, by some of the
 //! choices alone (`CanComeAgain` of specs/Again), or after which state it can't. It spreads marks against the choices,

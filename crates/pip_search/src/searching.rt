@@ -1,8 +1,9 @@
 //! The search.
-ghost use Rattle.std.specs.Prelude.{◌≡◌, ◌<◌, ◌≤◌, ◌+◌, ℕ, false, slice_get, IfOk, IsTrue, length, vec_len};
+ghost use Rattle.std.specs.Prelude.{◌≡◌, ◌<◌, ◌≤◌, ◌+◌, ◌^◌, ℕ, false, slice_get, IfOk, IsTrue, length, vec_len};
 ghost use Rattle.pip_search.specs.Again.{HasClosed};
 ghost use Rattle.pip_search.specs.Began.{HasBegun};
 ghost use Rattle.pip_search.specs.Ending.{Ends, IsBeyond};
+ghost use Rattle.pip_search.specs.Fresh.{AreFresh};
 ghost use Rattle.pip_search.specs.Keys.{AreKept, HaveKeys, IsAtHand, keys, labels, steps_of, visits_of};
 ghost use Rattle.pip_search.specs.Naming.{AreDistinct, AreNamed};
 ghost use Rattle.pip_search.specs.Reached.{Explains};
@@ -20,6 +21,7 @@ use crate::packing::{pack, unpack};
 use crate::system::System;
 use crate::visits::{MadeChoice, Visit, reach_next, run_from};
 use std::alloc::{AllocError, Global};
+use std::mem;
 
 /// How far a search came.
 #[derive(Clone, Copy, Debug, PartialEq, Eq)]
@@ -76,23 +78,27 @@ impl Search {
 }
 
 /// Buffers that each choice uses again: the words of the key from which it is made, those of the next key, its bytes,
-/// and what was shown.
+/// and what was shown. Where the next key is that of a new visit, `fresh` is its number; else it is 0.
 #[derive(Drop)]
 pub(crate) struct Buffers {
     pub(crate) from: Vec<u32>,
     pub(crate) to: Vec<u32>,
     pub(crate) bytes: Vec<u8>,
     pub(crate) shown: Vec<u8>,
+    pub(crate) fresh: u32,
 }
 
 impl Buffers {
     /// Empty ones.
-    pub(crate) fn new(alloc: Global) -> Buffers {
+    pub(crate) fn new(alloc: Global) -> Buffers
+        ensures { result.fresh ≡ 0 }
+    {
         Buffers {
             from: Vec::new(alloc),
             to: Vec::new(alloc),
             bytes: Vec::new(alloc),
             shown: Vec::new(alloc),
+            fresh: 0,
         }
     }
 }
@@ -108,6 +114,7 @@ fn begin(
     ensures keys { IfOk result (λ s. HaveKeys s.visits.items s.store s.keys) }
     ensures labels { IfOk result (λ s. AreNamed (labels s.found.items) s.labels) }
     ensures kept { IfOk result (λ s. AreKept (visits_of s)) }
+    ensures fresh { buffers.new.fresh ≡ buffers.old.fresh }
 {
     pack(start, &mut buffers.bytes)?;
     let mut store = KeyStore::new(alloc, seed)?;
@@ -132,6 +139,40 @@ fn begin(
     })
 }
 
+// The number of the newest visit, if there is one more than before; else 0.
+fn newest(before: usize, after: usize) -> u32
+    requires { before < 2 ^ 32 }
+    ensures more { before < after → result ≡ before }
+    ensures none { after ≤ before → result ≡ 0 }
+{
+    if before < after { before as u32 } else { 0 }
+}
+
+// Whether the visit at a place is the fresh one.
+fn is_fresh(fresh: u32, place: u32) -> bool
+    ensures some { IsTrue result → 0 < fresh }
+    ensures same { IsTrue result → fresh ≡ place }
+{
+    fresh > 0 && fresh == place
+}
+
+// Makes `from` the words of the key of visit `i`, which aren't read again where they were made last.
+fn bring_key(search: &Search, i: u32, buffers: &mut Buffers) -> Result<(), AllocError>
+    requires keyed { HaveKeys search.now.visits.items search.now.store search.now.keys }
+    requires place { i < length search.now.visits.items }
+    requires fresh { AreFresh (visits_of search.now) buffers.old.fresh buffers.old.to.items }
+    ensures hand { IfOk result (λ _. IsAtHand (visits_of search.now) i buffers.new.from.items) }
+    ensures fresh { buffers.new.fresh ≡ 0 }
+{
+    let fresh = buffers.fresh;
+    buffers.fresh = 0;
+    if is_fresh(fresh, i) {
+        mem::swap(&mut buffers.from, &mut buffers.to);
+        return Ok(());
+    }
+    search.read_key(i as usize, &mut buffers.bytes, &mut buffers.from)
+}
+
 // Makes a choice of visit `i`, whose key is at hand. False if its next state is new and there is no room for it.
 fn make<S: System>(
     search: &mut Search,
@@ -149,6 +190,7 @@ fn make<S: System>(
     requires room { vec_len search.old.visits ≤ limit }
     requires searching { IsSearching (S.model (S.base system.old)) start.now search.old i choice }
     requires hand { IsAtHand (visits_of search.old) i buffers.old.from.items }
+    requires fresh { AreFresh (visits_of search.old) buffers.old.fresh buffers.old.to.items }
     ensures made { IfOk result (λ room. IsTrue room
         → IsSearching (S.model (S.base system.old)) start.now search.new i (choice + 1)) }
     ensures left { IfOk result (λ room. room ≡ false
@@ -157,18 +199,19 @@ fn make<S: System>(
         → IsBeyond (S.model (S.base system.old)) (visits_of search.new) limit i) }
     ensures same { IfOk result (λ x. slice_get (visits_of search.new) i ≡ slice_get (visits_of search.old) i) }
     ensures hand { buffers.new.from.items ≡ buffers.old.from.items }
+    ensures fresh { IfOk result (λ x. AreFresh (visits_of search.new) buffers.new.fresh buffers.new.to.items) }
     ensures grows { vec_len search.old.visits ≤ vec_len search.new.visits }
     ensures room { IfOk result (λ x. vec_len search.new.visits ≤ limit) }
     ensures base { S.base system.new ≡ S.base system.old }
 {
+    let key = buffers.from.as_slice();
+    if system.stays(key, choice) {
+        return Ok(true);
+    }
+    buffers.fresh = 0;
     buffers.to.clear();
     buffers.shown.clear();
-    system.make(
-        buffers.from.as_slice(),
-        choice,
-        &mut buffers.to,
-        &mut buffers.shown,
-    )?;
+    system.make(key, choice, &mut buffers.to, &mut buffers.shown)?;
     let from = &search.visits[i as usize];
     let step = MadeChoice {
         at: i,
@@ -176,6 +219,7 @@ fn make<S: System>(
         depth: from.depth + 1,
         run: run_from(from, i, choice),
     };
+    let before = search.visits.len();
     let room = reach_next(
         &mut search.visits,
         &mut search.store,
@@ -197,6 +241,7 @@ fn make<S: System>(
         &buffers.shown,
         step,
     )?;
+    buffers.fresh = newest(before, search.visits.len());
     Ok(true)
 }
 
@@ -214,6 +259,7 @@ fn expand<S: System>(
     requires place { i < vec_len search.old.visits }
     requires room { vec_len search.old.visits ≤ limit }
     requires searching { IsSearching (S.model (S.base system.old)) start.now search.old i 0 }
+    requires fresh { AreFresh (visits_of search.old) buffers.old.fresh buffers.old.to.items }
     ensures made { IfOk result (λ room. IsTrue room
         → IsSearching (S.model (S.base system.old)) start.now search.new (i + 1) 0) }
     ensures left { IfOk result (λ room. room ≡ false
@@ -222,9 +268,10 @@ fn expand<S: System>(
         → IsBeyond (S.model (S.base system.old)) (visits_of search.new) limit i) }
     ensures same { IfOk result (λ x. slice_get (visits_of search.new) i ≡ slice_get (visits_of search.old) i) }
     ensures room { IfOk result (λ x. vec_len search.new.visits ≤ limit) }
+    ensures fresh { IfOk result (λ x. AreFresh (visits_of search.new) buffers.new.fresh buffers.new.to.items) }
     ensures base { S.base system.new ≡ S.base system.old }
 {
-    search.read_key(i as usize, &mut buffers.bytes, &mut buffers.from)?;
+    bring_key(search, i, buffers)?;
     let count = system.count();
     for choice in 0..count {
         let room = make(search, system, alloc, start, buffers, i, choice, limit)?;

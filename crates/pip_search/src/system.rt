@@ -1,5 +1,5 @@
 //! What is searched.
-ghost use Rattle.std.specs.Prelude.{◌≡◌, ◌<◌, All, IfOk};
+ghost use Rattle.std.specs.Prelude.{◌≡◌, ◌<◌, [], All, IfOk, IsTrue};
 ghost use Rattle.pip_search.specs.Systems.{IsKey, LeadsAlong, LeadsOn, Model};
 
 use std::alloc::{AllocError, Global};
@@ -23,6 +23,18 @@ pub trait System {
     /// A number with which the hashes of a search begin. It should be drawn from all that the states are made of, so
     /// that nobody can choose a system whose keys have equal hashes. What a search says doesn't depend on it.
     fn seed(&self) -> u64;
+
+    /// Whether it is plain from a key that a choice leads back to it and shows nothing. Then nothing is made. It may
+    /// always answer no.
+    fn stays(&self, from: &[u32], choice: u32) -> bool
+        requires key { IsKey (model (base self.now)) from.now }
+        requires choice { choice < (model (base self.now)).choices }
+        ensures stays { IsTrue result → LeadsOn (model (base self.now)) from.now choice from.now [] }
+    {
+        let _ = from;
+        let _ = choice;
+        false
+    }
 
     /// Makes a choice in the state for which a key stands. Afterwards `to` is a key of the next state, and `shown` what
     /// was shown, whatever they had before. The only error is that memory is out.

@@ -12,7 +12,8 @@ pub loop-choice-init : goal.loop-choice-init
 loop-choice-init g c = record {
   base = refl;
   searching = c.requires.searching;
-  hand = c.in_ok-read_key.ensures;
+  hand = c.in_ok-bring_key.ensures.hand;
+  fresh = λ some. let none = c.bring_key.ensures.fresh in absurd (omega arith);
   same = refl;
   grows = omega arith;
   room = c.requires.room;

@@ -46,6 +46,7 @@ loop-i-preserved g c =
       searching = h;
       shallow = shallow_more m c.args.start.now (visits_of t) t.found.items (c.loop-i.i + 1) 0 c.loop-i.i c.args.most
           (keyed_visit key v) h.exploring (c.in_ok-room.ensures.same ∙ at) c.if-depth-most.false;
+      fresh = c.in_ok-room.ensures.fresh;
       room = c.in_ok-room.ensures.room;
     }
 
@@ -85,5 +86,6 @@ loop-i-init g c =
         kept = c.in_ok-search.ensures.kept;
       };
       shallow = λ j u low e. absurd (omega arith);
+      fresh = λ some. let first = c.new-buffers.ensures in let then = c.begin.ensures.fresh in absurd (omega arith);
       room = omega arith;
     }

@@ -1,5 +1,6 @@
 use Rattle.std.proofs.Common.{◌≡◌, ◌-◌, ◌≤◌}
 use Rattle.std.specs.Prelude.{vec_len}
+use Rattle.pip_search.specs.Fresh.{AreFresh}
 use Rattle.pip_search.specs.Searching.{IsSearching}
 use Rattle.pip_search.specs.Keys.{visits_of}
 use Rattle.pip_search.proofs.Ending.{IsShallow}
@@ -10,6 +11,7 @@ invariant-loop-i g l = record {
   base : g.S.System.base l.system ≡ g.S.System.base l.fn.system;
   searching : IsSearching (g.S.System.model (g.S.System.base l.fn.system)) l.start l.search l.i 0;
   shallow : IsShallow (visits_of l.search) l.i l.most;
+  fresh : AreFresh (visits_of l.search) l.buffers.fresh l.buffers.to.items;
   room : vec_len l.search.visits ≤ l.limit;
 }
 

@@ -1,16 +1,37 @@
-use Rattle.std.proofs.Common.{false, rules, ◌≡◌, ◌+◌, arith, refl, sym, subst, ◌∙◌, IsTrue}
+use Rattle.std.proofs.Common.{false, rules, ◌≡◌, ◌+◌, arith, length, refl, sym, subst, ◌∙◌, IsTrue}
 use Rattle.pip_search.specs.Keys.{key_of, keyed_visit, keyed_visits, visits_of}
 use Rattle.pip_search.specs.Packing.{packed_key, unpacked_key}
 use Rattle.pip_search.specs.Systems.{LeadsOn}
 use Rattle.pip_search.specs.Collapsing.{keys_in}
+use Rattle.pip_search.proofs.Freshness.{fresh_now}
 use Rattle.pip_search.proofs.Keeping.{absent_key, kept_bytes, kept_more, kept_words}
 use Rattle.pip_search.proofs.Making.{grew_same, grown_and_told}
+use Rattle.pip_search.proofs.Staying.{stayed}
 use Rattle.pip_search.proofs.Places.{get-some}
 use Rattle.pip_search.proofs.Ranking.{ranked_more}
 use Rattle.pip_search.proofs.Telling.{visit_key}
-use Rattle.pip_search.proofs.Steps.{visit_count}
+use Rattle.pip_search.proofs.Steps.{keyed_count, visit_count}
 use Rattle.pip_search.proofs.Done.{visit_read}
 use Rattle.pip_search.proofs.searching.make.Goals as goal
+
+pub stays-requires-clause-key : goal.stays-requires-clause-key
+stays-requires-clause-key g c =
+    let m = g.S.System.model (g.S.System.base c.args.system.now) in
+    let s = c.args.search.now in
+    let count = visit_count s c.requires.searching.keyed in
+    let (v, at) = get-some (visits_of s) c.args.i (omega arith) in
+    rw (c.as_slice-key.ensures.value, c.requires.hand v at)
+    (visit_key m c.args.start.now (visits_of s) s.found.items c.args.i c.args.choice c.requires.searching.exploring
+    c.requires.key c.args.i v at)
+
+pub returns-then-stays-clause-made : goal.returns-then-stays-clause-made
+returns-then-stays-clause-made g c = λ t.
+    let m = g.S.System.model (g.S.System.base c.args.system.now) in
+    let s = c.args.search.now in
+    let count = visit_count s c.requires.searching.keyed in
+    let (v, at) = get-some (visits_of s) c.args.i (omega arith) in
+    stayed m c.args.start.now s c.args.i c.args.choice v c.requires.searching at c.requires.choice
+    (rw (← c.requires.hand v at, ← c.as_slice-key.ensures.value) (c.stays.ensures.stays c.if-stays.true))
 
 pub make-requires-clause-key : goal.make-requires-clause-key
 make-requires-clause-key g c =
@@ -18,7 +39,7 @@ make-requires-clause-key g c =
     let s = c.args.search.now in
     let count = visit_count s c.requires.searching.keyed in
     let (v, at) = get-some (visits_of s) c.args.i (omega arith) in
-    rw (c.as_slice.ensures.value, c.requires.hand v at)
+    rw (c.as_slice-key.ensures.value, c.requires.hand v at)
     (visit_key m c.args.start.now (visits_of s) s.found.items c.args.i c.args.choice c.requires.searching.exploring
     c.requires.key c.args.i v at)
 
@@ -63,7 +84,7 @@ returns-clause-made g c = λ t.
             leads = rw words (subst (λ k. LeadsOn m (key_of v) c.args.choice c.make.new.to.items k)
                 (sym c.deref-3.ensures.value) (subst
                 (λ k. LeadsOn m k c.args.choice c.make.new.to.items c.make.new.shown.items)
-                (c.as_slice.ensures.value ∙ c.requires.hand v at) c.in_ok-make.ensures.leads));
+                (c.as_slice-key.ensures.value ∙ c.requires.hand v at) c.in_ok-make.ensures.leads));
             depth = refl;
             run = c.run_from.ensures;
           })
@@ -74,6 +95,20 @@ returns-clause-made g c = λ t.
       kept = kept_more vs ws key c.args.i c.args.choice (v.depth + 1) run h.kept
           (kept_bytes c.make.new.to.items key packed words) (c.in_ok-room.ensures.grew room);
     }
+
+pub returns-clause-fresh : goal.returns-clause-fresh
+returns-clause-fresh g c =
+    let s = c.args.search.now in
+    let next = c.reach_next.new in
+    let room : IsTrue c.in_ok-room.room = search rules in
+    let key = packed_key c.deref-2.result.now in
+    let words : unpacked_key key ≡ c.make.new.to.items = c.in_ok-room.ensures.back ∙ c.deref-2.ensures.value in
+    let keyed = c.in_ok-room.ensures.keyed in
+    fresh_now (visits_of s) (keyed_visits (keys_in next.store) next.visits.items) (length s.visits.items)
+    (length next.visits.items) key c.make.new.to.items c.args.i c.args.choice _ c.run_from.result c.newest-buffers.result
+    (visit_count s c.requires.searching.keyed) (keyed_count (keys_in next.store) next.visits.items keyed.count) words
+    (λ l. let last = c.newest-buffers.ensures.more (omega arith) in omega arith)
+    (λ l. c.newest-buffers.ensures.none (omega arith)) (c.in_ok-room.ensures.grew room)
 
 pub returns-then-not-room-clause-beyond : goal.returns-then-not-room-clause-beyond
 returns-then-not-room-clause-beyond g c = λ t.
@@ -96,7 +131,7 @@ returns-then-not-room-clause-beyond g c = λ t.
       shown = c.make.new.shown.items;
       leads = subst
           (λ k. LeadsOn m k c.args.choice c.make.new.to.items c.make.new.shown.items)
-          (c.as_slice.ensures.value ∙ c.requires.hand v at) c.in_ok-make.ensures.leads;
+          (c.as_slice-key.ensures.value ∙ c.requires.hand v at) c.in_ok-make.ensures.leads;
       full = full.count;
       absent
           = absent_key vs key c.make.new.to.items c.requires.searching.kept packed full.absent;
