@@ -32,3 +32,4 @@ pub mod Lost
 pub mod Falling
 pub mod Looping
 pub mod Avoided
+pub mod Staging

@@ -22,3 +22,4 @@ pub mod Merging
 pub mod Graphs
 pub mod Again
 pub mod Comes
+pub mod Stages
