@@ -25,11 +25,11 @@ pub record IsAvoidedBy (m : Model) (classes : List ℕ) (s : m.State) (label : L
   pub avoided : IsAvoided m classes s label before over
 
 -- of a label that a search from s asks for: wherever choices lead, it comes where those that are made next are fair; or
--- a fair loop after a way avoids it; or nothing
+-- a fair loop after a way avoids it; or nothing, where the search didn't close
 abbrev pub IsComing : (m : Model) → List ℕ → m.State → List ℕ → Extent → Comes → Type 0
 IsComing m classes s label (Closed depth) (Must counts) = MustCome m classes s label counts.items
 IsComing m classes s label (Closed depth) (Avoided way round) = IsAvoidedBy m classes s label way.items round.items
-IsComing m classes s label (Closed depth) Unknown = Unit {0}
+IsComing m classes s label (Closed depth) Unknown = ⊥
 IsComing m classes s label (Within depth) r = r ≡ Unknown
 IsComing m classes s label (Stopped depth) r = r ≡ Unknown
 

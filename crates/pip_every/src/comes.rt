@@ -24,7 +24,7 @@ pub enum Comes {
     /// After this way it never comes where the choices of this round, which has one of each class, are made over and
     /// over: their runs of equal choices, in the order in which they are made.
     Avoided { way: Vec<Run>, round: Vec<Run> },
-    /// Nothing: the search didn't close, or neither was found.
+    /// Nothing: the search didn't close.
     Unknown,
 }
 
@@ -81,7 +81,6 @@ fn say<S: System>(
             let round = runs_along(alloc, choices.as_slice())?;
             Ok(Comes::Avoided { way, round })
         }
-        Coming::Unknown => Ok(Comes::Unknown),
     }
 }
 

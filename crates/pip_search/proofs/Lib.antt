@@ -34,3 +34,4 @@ pub mod Lost
 pub mod Falling
 pub mod Looping
 pub mod Avoided
+pub mod Staging

@@ -1,23 +1,27 @@
 -- From what was checked of orders and of loops to what is said.
-use Rattle.std.proofs.Common.{◌≡◌, ℕ, zero, suc, ◌+◌, ◌*◌, ◌/◌, ◌%◌, ◌^◌, ◌<◌, inl, inr, List, [], ◌∷◌}
+use Rattle.std.proofs.Common.{◌≡◌, ℕ, zero, suc, ◌+◌, ◌*◌, ◌/◌, ◌%◌, ◌^◌, ◌<◌, ◌≤◌, inl, inr, List, [], ◌∷◌}
 use Rattle.std.proofs.Common.{◌++◌, length, Some, reverse, slice_get, slice_index, refl, ap, sym, subst, ◌∙◌, arith}
 use Rattle.std.proofs.lemmas.List.{length-reverse, reverse-append}
 use Rattle.std.proofs.lemmas.Bool.{cases_lt}
-use Rattle.std.proofs.lemmas.Nat.{div-mul-add, mod-mul-add, mul-add-lt}
+use Rattle.std.proofs.lemmas.Nat.{div-mul-add, div_below, mod-mul-add, mul-add-lt}
 use Rattle.std.proofs.Math.ListN.{get_or-append}
 use Rattle.std.proofs.Math.Seq.{get_or-append_seam}
-use Rattle.std.proofs.Common.{length-append, Bool, true, false}
+use Rattle.std.proofs.Common.{length-append, Bool, true, false, Result, Ok, Err, IfOk}
 use Rattle.pip_search.specs.Again.{HasClosed, IsEdge, ShowsAt, ShowsOther}
 use Rattle.pip_search.specs.Comes.{AreCutEdges, AreFalling, GoesDown, HasEach, IsAvoided, IsCutEdge, IsHidden}
-use Rattle.pip_search.specs.Comes.{PassesRanks}
-use Rattle.pip_search.specs.Comes.{IsWalk, times_over}
+use Rattle.pip_search.specs.Comes.{ComingHolds, IsWalk, PassesRanks, rank_at, times_over}
 use Rattle.pip_search.specs.Keys.{Keyed, key_of, step_of, steps_of, visits_of}
 use Rattle.pip_search.specs.Reached.{AreChoices, Tells}
+use Rattle.pip_search.specs.Stages.{AreInside, IsSaidBy, IsSettled}
 use Rattle.pip_search.specs.Systems.{Model, after_choices}
 use Rattle.pip_search.specs.Ways.{way_to}
 use Rattle.pip_search.specs.declared.searching.Search.{Search}
 use Rattle.pip_search.specs.declared.searching.Extent.TheVariants.{Closed}
-use Rattle.pip_search.proofs.Falling.{after_both}
+use Rattle.pip_search.specs.declared.coming.Coming.{Coming}
+use Rattle.pip_search.specs.declared.coming.Coming.TheVariants as C
+use Rattle.pip_search.specs.declared.stages.Settled.{Settled}
+use Rattle.pip_search.specs.declared.stages.Settled.TheVariants.{Looped, Ranked}
+use Rattle.pip_search.proofs.Falling.{after_both, must_come}
 use Rattle.pip_search.proofs.Making.{at-same}
 use Rattle.pip_search.proofs.Picking.{map_at}
 use Rattle.pip_search.proofs.Places.{get-below, get-more, get-new, get-some}
@@ -85,6 +89,17 @@ module _ (m : Model) (vs : List Keyed) (label targets : List ℕ) (cut : AreCutE
           ]
         ];
       }
+
+  -- each leads to a visit, if it isn't cut
+  pub are_inside : (count : ℕ) → length vs ≡ count → length targets ≡ length vs * m.choices → 0 < m.choices
+      → AreInside targets count
+  are_inside count is long some e low =
+      let first : e / m.choices < length vs = div_below e m.choices (length vs) some (omega arith) in
+      let (u, at) = get-some vs (e / m.choices) first in
+      elim (cut e u low at) [
+        | inl shows ↦ inl shows.0
+        | inr edge ↦ inr (let to = get-below vs (slice_index targets e) edge.0.to edge.0.there in omega arith)
+      ]
 
   -- ---- walks
 
@@ -200,6 +215,45 @@ is_avoided m start z h label classes targets cut few j low cs walk some each x s
       each = each_reverse classes cs each;
       never = rw (← is) never;
     }
+
+-- ---- what stages say
+
+pub is_settled : (m : Model) (start : List ℕ) (z : Search) → HasClosed m start z → (label classes targets : List ℕ)
+    → AreCutEdges m (visits_of z) label m.choices targets → length (visits_of z) < 2 ^ 32
+    → length targets ≡ length (visits_of z) * m.choices → 0 < m.choices → (columns : ℕ) (settled : Settled)
+    (said : Coming) → IsSettled targets classes columns m.choices (length (visits_of z)) settled
+    → IsSaidBy columns settled said → (x : m.State) → m.stands start x
+    → ComingHolds m classes x label z.visits.items said
+is_settled m start z h label classes targets cut few count some columns (Ranked ranks helpers) (C.Within counts) passed
+    (long, low) x stands =
+    let falling : AreFalling m (visits_of z) label classes ranks.items helpers.items (length counts.items) =
+    rw long (are_falling m (visits_of z) label targets cut few classes ranks.items helpers.items columns count passed) in
+    let below : (j d : ℕ) → d < length counts.items → rank_at ranks.items (length counts.items) j d
+    ≤ slice_index counts.items d = rw long low in
+    must_come m start z h label classes ranks.items helpers.items counts.items some falling below x stands
+is_settled m start z h label classes targets cut few count some columns (Ranked ranks helpers) (C.Avoided place choices)
+    passed said x stands = absurd said
+is_settled m start z h label classes targets cut few count some columns (Looped place choices) (C.Within counts) passed
+    said x stands = absurd said
+is_settled m start z h label classes targets cut few count some columns (Looped place choices) (C.Avoided at over) passed
+    (is, same) x stands =
+    let all = visit_count z h.searching.keyed in
+    let inside = passed.inside in
+    rw (is, same) (
+      omega arith,
+      is_avoided m start z h label classes targets cut few place inside choices.items passed.walk passed.some passed.each
+          x stands,
+    )
+
+pub said_after : {E : Type 0} (m : Model) (start : List ℕ) (z : Search) → HasClosed m start z
+    → (label classes targets : List ℕ) → AreCutEdges m (visits_of z) label m.choices targets
+    → length (visits_of z) < 2 ^ 32 → length targets ≡ length (visits_of z) * m.choices → 0 < m.choices
+    → (columns : ℕ) (settled : Settled) → IsSettled targets classes columns m.choices (length (visits_of z)) settled
+    → (r : Result Coming E) → IfOk r (λ said. IsSaidBy columns settled said)
+    → IfOk r (λ said. (x : m.State) → m.stands start x → ComingHolds m classes x label z.visits.items said)
+said_after m start z h label classes targets cut few count some columns settled passed (Ok said) by = λ x stands.
+    is_settled m start z h label classes targets cut few count some columns settled said passed by x stands
+said_after m start z h label classes targets cut few count some columns settled passed (Err e) by = by
 
 -- ---- what is put in place of a visit
 

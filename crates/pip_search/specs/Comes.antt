@@ -9,7 +9,7 @@ use Rattle.pip_search.specs.Summary.{IsShownOn}
 use Rattle.pip_search.specs.Systems.{Model, after_choices}
 use Rattle.pip_search.specs.Ways.{way_to}
 use Rattle.pip_search.specs.declared.coming.Coming.{Coming}
-use Rattle.pip_search.specs.declared.coming.Coming.TheVariants.{Avoided, Unknown, Within}
+use Rattle.pip_search.specs.declared.coming.Coming.TheVariants.{Avoided, Within}
 use Rattle.pip_search.specs.declared.visits.Visit.{Visit}
 
 -- ---- what is said
@@ -141,7 +141,6 @@ abbrev pub ComingHolds : (m : Model) → List ℕ → m.State → List ℕ → L
 ComingHolds m classes s label vs (Within counts) = MustCome m classes s label counts.items
 ComingHolds m classes s label vs (Avoided place choices) = (place < length vs)
     × IsAvoided m classes s label (way_to vs place) (reverse choices.items)
-ComingHolds m classes s label vs Unknown = Unit {0}
 
 -- The law on labels that come: no loop avoids them
 abbrev pub ComingIsNotAvoided : Model → Type 0

@@ -23,3 +23,4 @@ pub mod Merging
 pub mod Graphs
 pub mod Again
 pub mod Comes
+pub mod Stages

@@ -7,12 +7,14 @@ ghost use Rattle.pip_search.specs.Comes.{AreCutEdges, GoesDown, HasEach, HasOneO
 ghost use Rattle.pip_search.specs.Comes.{HasRank};
 ghost use Rattle.pip_search.specs.Comes.{ComingHolds, IsWalk, helpful, rank_at};
 ghost use Rattle.pip_search.specs.Keys.{visits_of};
+ghost use Rattle.pip_search.specs.Stages.{IsSaidBy};
 ghost use Rattle.pip_search.specs.Summary.{HasOneKey};
 ghost use Rattle.pip_search.specs.Systems.{IsKey};
 
 use crate::again::look;
 use crate::ranks::{Ranks, rank};
 use crate::searching::{Buffers, Search};
+use crate::stages::{Settled, settle};
 use crate::system::System;
 use std::alloc::{AllocError, Global};
 
@@ -26,8 +28,6 @@ pub enum Coming {
     Within { counts: Vec<u32> },
     /// After the way to a visit it never comes, where these choices are made over and over.
     Avoided { place: usize, choices: Vec<u32> },
-    /// Neither was found.
-    Unknown,
 }
 
 /// The word at a place, or 0.
@@ -104,14 +104,14 @@ fn cut_everywhere<S: System>(
 }
 
 // The class that is helpful at a visit.
-fn helpful_at(classes: &[u32], helpers: &[u32], place: usize) -> u32
+pub(crate) fn helpful_at(classes: &[u32], helpers: &[u32], place: usize) -> u32
     ensures { result ≡ helpful classes.now helpers.now place }
 {
     word_at(classes, word_at(helpers, place) as usize)
 }
 
 // Where a row has a column, in rows one after another.
-fn cell_at(columns: u32, row: u32, column: u32) -> usize
+pub(crate) fn cell_at(columns: u32, row: u32, column: u32) -> usize
     ensures { result ≡ row * columns + column }
 {
     row as usize * columns as usize + column as usize
@@ -353,10 +353,27 @@ fn is_loop(
     }
 }
 
+// What follows from ranks or a loop that were found by stages.
+fn said_by(alloc: Global, columns: u32, settled: Settled) -> Result<Coming, AllocError>
+    ensures { IfOk result (λ r. IsSaidBy columns settled r) }
+{
+    match settled {
+        Settled::Ranked { ranks, helpers: _ } => {
+            let counts = counts_of(alloc, ranks.as_slice(), columns)?;
+            Ok(Coming::Within { counts })
+        }
+        Settled::Looped { place, choices } => Ok(Coming::Avoided {
+            place: place as usize,
+            choices,
+        }),
+    }
+}
+
 /// Whether a label that a search looked for comes wherever its choices lead, if those that are made next are fair:
 /// among as many that come one after the other as the window of a class says is one of the class. Number c of `classes`
 /// is the class of choice c, from 1 on, or 0 if it has none. The search has closed, and no state has two keys. The only
-/// error is that memory is out; there is a column for each number up to the highest class.
+/// error is that memory is out; there is a column for each number up to the highest class. Ranks and a loop are sought
+/// quickly, and checked; where neither passes, they are found by stages.
 pub fn must_come<S: System>(
     search: &Search,
     system: &mut S,
@@ -400,5 +417,6 @@ pub fn must_come<S: System>(
             choices: ranks.choices,
         });
     }
-    Ok(Coming::Unknown)
+    let settled = settle(alloc, targets.as_slice(), classes, columns, width, count)?;
+    said_by(alloc, columns, settled)
 }

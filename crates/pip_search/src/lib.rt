@@ -15,6 +15,8 @@
 //! Of a search that closed [`come_again`] says whether a label can come again wherever choices lead, by some of the
 //! choices alone (`CanComeAgain` of specs/Again), or after which state it can't. It spreads marks against the choices,
 //! from those that show the label (specs/Graphs); choices are found by where they lead, on chains (specs/Filing).
+//! [`must_come`] says within how many choices it comes where they are fair, or shows a loop of fair choices that avoids
+//! it (specs/Comes). One of the two is always found: at worst by stages (specs/Stages).
 //!
 //! A search that is too large for one process is a certificate of parts (specs/Certificates). [`check_part`] checks a
 //! part by itself: it begins where a way leads, makes every choice at every key of the part, and a mark for each choice
@@ -38,6 +40,7 @@ mod packing;
 mod parts;
 mod ranks;
 mod searching;
+mod stages;
 mod stops;
 mod system;
 mod visits;

@@ -152,17 +152,18 @@ fn a_label_comes_again_or_is_lost(rt: HostRuntime) -> Result<(), Fail> {
     Ok(())
 }
 
-// What is said of a label of two counters below 3, where choices have these classes.
-fn coming(alloc: Global, label: &[u8], classes: &[u32]) -> Result<Coming, AllocError>
+// What is said of a label of two counters below 3, where choices have these classes, if the search closes.
+fn coming(alloc: Global, label: &[u8], classes: &[u32]) -> Result<Option<Coming>, AllocError>
     requires classes { length classes.now ≤ 2 }
 {
     let start = [0u32, 0];
     let mut system = Counters { bound: 3, seed: 0 };
     let (search, verdict) = explore(&mut system, alloc, &start, 100, 100)?;
     let Extent::Closed { .. } = verdict else {
-        return Ok(Coming::Unknown);
+        return Ok(None);
     };
-    must_come(&search, &mut system, alloc, &start, label, classes)
+    let said = must_come(&search, &mut system, alloc, &start, label, classes)?;
+    Ok(Some(said))
 }
 
 // By how many windows of each class it comes, or none.
@@ -170,8 +171,8 @@ fn windows(alloc: Global, label: &[u8], classes: &[u32]) -> Result<Vec<u32>, All
     requires classes { length classes.now ≤ 2 }
 {
     match coming(alloc, label, classes)? {
-        Coming::Within { counts } => Ok(counts),
-        Coming::Avoided { .. } | Coming::Unknown => Ok(Vec::new(alloc)),
+        Some(Coming::Within { counts }) => Ok(counts),
+        Some(Coming::Avoided { .. }) | None => Ok(Vec::new(alloc)),
     }
 }
 
@@ -184,8 +185,8 @@ fn avoided(
     requires classes { length classes.now ≤ 2 }
 {
     match coming(alloc, label, classes)? {
-        Coming::Avoided { place, choices } => Ok(Some((place, choices))),
-        Coming::Within { .. } | Coming::Unknown => Ok(None),
+        Some(Coming::Avoided { place, choices }) => Ok(Some((place, choices))),
+        Some(Coming::Within { .. }) | None => Ok(None),
     }
 }
 

@@ -1,9 +1,10 @@
 use Rattle.std.proofs.Common.{◌≡◌, ℕ, ◌*◌, ◌^◌, ◌<◌, ◌≤◌, length, reverse, slice_index, subst}
-use Rattle.std.proofs.Common.{arith}
+use Rattle.std.proofs.Common.{rules, ◌+◌, arith}
 use Rattle.pip_search.specs.Comes.{AreFalling, HasEach, PassesRanks, IsWalk, rank_at}
 use Rattle.pip_search.specs.Keys.{visits_of}
+use Rattle.pip_search.specs.Stages.{IsSettled}
 use Rattle.pip_search.proofs.Falling.{must_come}
-use Rattle.pip_search.proofs.Looping.{are_falling, is_avoided}
+use Rattle.pip_search.proofs.Looping.{are_falling, are_inside, is_avoided, said_after}
 use Rattle.pip_search.proofs.Steps.{visit_count}
 use Rattle.pip_search.proofs.coming.must_come.Goals as goal
 
@@ -66,3 +67,44 @@ returns-then-is_loop-clause-said g c = λ x stands.
       is_avoided m c.args.start.now z c.requires.closed label classes targets e.cut few place
           (omega arith) choices walk some each x stands,
     )
+
+pub settle-requires-clause-places : goal.settle-requires-clause-places
+settle-requires-clause-places g c =
+    let n : c.len-count.result ≡ length c.args.search.now.visits.items = omega arith in
+    rw (c.as_slice.ensures.value, n, c.count-width.ensures) c.in_ok-targets.ensures.count
+
+pub settle-requires-clause-inside : goal.settle-requires-clause-inside
+settle-requires-clause-inside g c =
+    let m = g.S.System.model (g.S.System.base c.args.system.now) in
+    let z = c.args.search.now in
+    let vs = visits_of z in
+    let e = c.in_ok-targets.ensures in
+    let targets = c.in_ok-targets.targets.items in
+    let all = visit_count z c.requires.closed.searching.keyed in
+    let few : length vs < 2 ^ 32 = omega arith in
+    let count : length targets ≡ length vs * m.choices = rw (e.count, ← all) in
+    let is : length vs ≡ c.len-count.result = omega arith in
+    rw c.as_slice.ensures.value (are_inside m vs c.args.label.now targets e.cut few c.len-count.result is count
+    c.requires.some)
+
+pub settle-requires-clause-columns : goal.settle-requires-clause-columns
+settle-requires-clause-columns g c = λ k.
+    let h : slice_index c.args.classes.now k ≤ c.highest.result = c.highest.ensures k in
+    let more : c.in-Some.columns ≡ c.highest.result + 1 = search rules in
+    omega arith
+
+pub returns-clause-said : goal.returns-clause-said
+returns-clause-said g c =
+    let m = g.S.System.model (g.S.System.base c.args.system.now) in
+    let z = c.args.search.now in
+    let vs = visits_of z in
+    let e = c.in_ok-targets.ensures in
+    let targets = c.in_ok-targets.targets.items in
+    let all = visit_count z c.requires.closed.searching.keyed in
+    let few : length vs < 2 ^ 32 = omega arith in
+    let count : length targets ≡ length vs * m.choices = rw (e.count, ← all) in
+    let is : c.len-count.result ≡ length vs = omega arith in
+    let settled : IsSettled targets c.args.classes.now c.in-Some.columns m.choices (length vs) c.in_ok-settled.settled =
+    rw c.as_slice.ensures.value at (rw c.count-width.ensures at (rw is at c.in_ok-settled.ensures)) in
+    said_after m c.args.start.now z c.requires.closed c.args.label.now c.args.classes.now targets e.cut few count
+    c.requires.some c.in-Some.columns c.in_ok-settled.settled settled c.said_by.result c.said_by.ensures
