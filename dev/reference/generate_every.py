@@ -176,7 +176,8 @@ def named_rows(rng: random.Random, child: int, pages: list[int]) -> list[str]:
     rows = [(CODE, pages[0], 5), (DATA, pages[2], 3), (HANDLERS, pages[1], 3)]
     lines = [f"row {child} {address // PAGE:#x} {page} {rights}" for address, page, rights in rows]
     if rng.random() < 0.15:
-        lines[rng.randrange(3)] = f"row {child} {rng.choice(rows)[0] // PAGE:#x} {rng.choice((9, *pages))} {rng.randrange(8)}"
+        page = rng.choice((9, *pages))
+        lines[rng.randrange(3)] = f"row {child} {rng.choice(rows)[0] // PAGE:#x} {page} {rng.randrange(8)}"
     return lines[::-1] if rng.random() < 0.05 else lines
 
 

@@ -131,7 +131,7 @@ class LeftOut:
 
 
 class Watched(Tree):
-    """A tree that notes which words are read that are left out, and which entries are by others than their partition."""
+    """A tree that notes which words are read that are left out, and which entries by others than their partition."""
 
     def watch(self, out: LeftOut) -> None:
         self.out, self.read, self.is_blank = out, set[tuple[int, int]](), False

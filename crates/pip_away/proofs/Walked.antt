@@ -23,7 +23,7 @@ use Rattle.pip_guests.specs.Entries.{fits_rows, row_fits, rows_fit}
 use Rattle.pip_space.specs.Rows.{IsNextRow}
 use Rattle.pip_space.specs.declared.row.Row.{Row as CodeRow}
 use Rattle.pip_table.specs.NextLeaf.{start_above}
-use Rattle.pip_away.specs.Blind.{is_row, rows_of}
+use Rattle.pip_away.specs.Blind.{is_row, own_rows}
 use Rattle.pip_away.specs.declared.blind.OwnRow.{OwnRow}
 use Rattle.pip_away.proofs.Reading.{drop_all, drop_at}
 
@@ -265,7 +265,7 @@ module _ (t : Tree) (s : IsSound t) (p : ℕ) (x : Node) (found : find_node t p 
       pub before : List Row
       pub later : List Row
       pub walk : Walked from before later
-      pub same : fits_rows t p (rows_of all owner) ≡ rows_fit t later (rows_of (drop k all) owner)
+      pub same : fits_rows t p (own_rows all owner) ≡ rows_fit t later (own_rows (drop k all) owner)
 
     pub fitting_none : Fitting 0 0
     fitting_none = record {
@@ -289,12 +289,12 @@ module _ (t : Tree) (s : IsSound t) (p : ℕ) (x : Node) (found : find_node t p 
         abbrev one : Row
         one = record { at = own.at; frame = own.page; rights = own.rights }
 
-        here : fits_rows t p (rows_of all owner) ≡ rows_fit t h.later (one ∷ rows_of (drop (k + 1) all) owner)
+        here : fits_rows t p (own_rows all owner) ≡ rows_fit t h.later (one ∷ own_rows (drop (k + 1) all) owner)
         here = h.same ∙ rw (drop_at all k own at, its)
 
         -- no row is left
         pub fitting_short : ((u : ℕ) → from ≤ u → full_rows t x u ≡ None)
-            → false ≡ fits_rows t p (rows_of all owner)
+            → false ≡ fits_rows t p (own_rows all owner)
         unfolding here
         fitting_short none = sym (rw (here, walked_end from h.before h.later h.walk none))
 
@@ -318,7 +318,7 @@ module _ (t : Tree) (s : IsSound t) (p : ℕ) (x : Node) (found : find_node t p 
                   )
 
           -- another row
-          pub fitting_other : is_row v f own ≡ false → false ≡ fits_rows t p (rows_of all owner)
+          pub fitting_other : is_row v f own ≡ false → false ≡ fits_rows t p (own_rows all owner)
           unfolding here
           fitting_other e = sym (rw (here, next.is, its_row, e))
 
@@ -329,13 +329,13 @@ module _ (t : Tree) (s : IsSound t) (p : ℕ) (x : Node) (found : find_node t p 
             before = h.before ++ next.row ∷ [];
             later = next.rest;
             walk = next.on;
-            same = here ∙ ap (λ l. rows_fit t l (one ∷ rows_of (drop (k + 1) all) owner)) next.is
-                ∙ ap (λ b. b && rows_fit t next.rest (rows_of (drop (k + 1) all) owner)) (its_row ∙ e);
+            same = here ∙ ap (λ l. rows_fit t l (one ∷ own_rows (drop (k + 1) all) owner)) next.is
+                ∙ ap (λ b. b && rows_fit t next.rest (own_rows (drop (k + 1) all) owner)) (its_row ∙ e);
           }
 
     -- all that are named were passed
     pub fitting_end : (k from : ℕ) → Fitting k from → length all ≤ k → (r : Option (ℕ × CodeRow)) (o : Option ℕ)
-        → from ≡ start_above o → IsNextRow (full_rows t x) o r → not (is_some r) ≡ fits_rows t p (rows_of all owner)
+        → from ≡ start_above o → IsNextRow (full_rows t x) o r → not (is_some r) ≡ fits_rows t p (own_rows all owner)
     fitting_end k from h late r o is n = sym (rw (h.same, drop_all all k late) (by r n))
       where
         by : (r : Option (ℕ × CodeRow)) → IsNextRow (full_rows t x) o r → rows_fit t h.later [] ≡ not (is_some r)

@@ -3,7 +3,7 @@ use Rattle.std.specs.Prelude.{ℕ, ◌%◌, ◌==◌, ◌&&◌, nat_le, not, Boo
 use Rattle.std.specs.Prelude.{None, option_map}
 use Rattle.std.specs.List.{list_any}
 use Rattle.pip_away.specs.declared.blind.Blind.{Blind}
-use Rattle.pip_away.specs.declared.blind.Entry.{Entry}
+use Rattle.pip_away.specs.declared.blind.TableEntry.{TableEntry}
 use Rattle.pip_away.specs.declared.blind.OwnRow.{OwnRow}
 use Rattle.pip_away.specs.declared.blind.PageWord.{PageWord}
 use Rattle.pip_away.specs.declared.handlers.TableWord.{TableWord}
@@ -24,7 +24,7 @@ pub record LeftOut : Type 0 where
   pub own : List ℕ
   pub pages : List ℕ
   pub seen : List PageWord
-  pub entries : List Entry
+  pub entries : List TableEntry
   pub rows : List OwnRow
 
 -- those that are named
@@ -42,8 +42,8 @@ abbrev pub is_left_out : LeftOut → ℕ → ℕ → Bool
 is_left_out o g i = has o.pages g && not (is_seen_word o.seen g i)
 
 -- the rows of a partition
-abbrev pub rows_of : List OwnRow → ℕ → List Row
-rows_of rows p =
+abbrev pub own_rows : List OwnRow → ℕ → List Row
+own_rows rows p =
     map (λ r. record { at = r.at; frame = r.page; rights = r.rights }) (filter (λ r. r.name == p) rows)
 
 -- a row of the tables is this one, and its page isn't hidden
@@ -61,7 +61,7 @@ entry_owner o g i =
 
 -- its rows
 abbrev pub kept_of : LeftOut → ℕ → ℕ → Option (List Row)
-kept_of o g i = option_map (rows_of o.rows) (entry_owner o g i)
+kept_of o g i = option_map (own_rows o.rows) (entry_owner o g i)
 
 -- the tests of words
 abbrev pub sight_in : LeftOut → Sight

@@ -33,7 +33,7 @@ pub struct PageWord {
 
 /// An entry of a handler table.
 #[derive(Clone, Copy, Default)]
-pub struct Entry {
+pub struct TableEntry {
     /// The partition whose table it is.
     pub name: u32,
     pub vector: u32,
@@ -62,7 +62,7 @@ pub struct Blind {
     pub own: ArrayVec<u32, MAX_OWN>,
     pub pages: ArrayVec<u32, MAX_FREE>,
     pub seen: ArrayVec<PageWord, MAX_SEEN>,
-    pub entries: ArrayVec<Entry, MAX_ENTRIES>,
+    pub entries: ArrayVec<TableEntry, MAX_ENTRIES>,
     pub rows: ArrayVec<OwnRow, MAX_ROWS>,
 }
 

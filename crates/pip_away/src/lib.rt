@@ -19,7 +19,7 @@ mod rows;
 mod turns;
 
 pub use blind::{
-    Blind, Entry, MAX_ENTRIES, MAX_FREE, MAX_OWN, MAX_ROWS, MAX_SEEN, OwnRow, PageWord,
+    Blind, MAX_ENTRIES, MAX_FREE, MAX_OWN, MAX_ROWS, MAX_SEEN, OwnRow, PageWord, TableEntry,
 };
 pub use confined::is_confined;
 pub use events::{

@@ -4,7 +4,7 @@ ghost use Rattle.pip_model.specs.Partitions.{HasPartition, InEach};
 ghost use Rattle.pip_model.specs.Tree.{children};
 ghost use Rattle.pip_guests.specs.Entries.{fits_rows};
 ghost use Rattle.pip_space.specs.Rows.{full_of};
-ghost use Rattle.pip_away.specs.Blind.{is_row, rows_of};
+ghost use Rattle.pip_away.specs.Blind.{is_row, own_rows};
 
 use crate::blind::OwnRow;
 use bitflags::Flags;
@@ -31,7 +31,7 @@ pub(crate) fn has_rows<M: Frames, L: Ledger>(
     steps: &mut Steps<L>,
 ) -> bool
     requires { HasPartition (M.memory mem.now) part }
-    ensures { InEach (M.memory mem.now) part (λ t x. result ≡ fits_rows t part (rows_of rows.now owner)) }
+    ensures { InEach (M.memory mem.now) part (λ t x. result ≡ fits_rows t part (own_rows rows.now owner)) }
 {
     let mut after: Option<VPage> = None;
     for k in 0..rows.len() {

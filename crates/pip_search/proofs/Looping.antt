@@ -12,7 +12,7 @@ use Rattle.pip_search.specs.Comes.{AreCutEdges, AreFalling, GoesDown, HasEach, I
 use Rattle.pip_search.specs.Comes.{ComingHolds, IsWalk, PassesRanks, rank_at, times_over}
 use Rattle.pip_search.specs.Keys.{Keyed, key_of, step_of, steps_of, visits_of}
 use Rattle.pip_search.specs.Reached.{AreChoices, Tells}
-use Rattle.pip_search.specs.Stages.{AreInside, IsSaidBy, IsSettled}
+use Rattle.pip_search.specs.Stages.{LeadInside, IsSaidBy, IsRankedOrLooped}
 use Rattle.pip_search.specs.Systems.{Model, after_choices}
 use Rattle.pip_search.specs.Ways.{way_to}
 use Rattle.pip_search.specs.declared.searching.Search.{Search}
@@ -92,7 +92,7 @@ module _ (m : Model) (vs : List Keyed) (label targets : List ℕ) (cut : AreCutE
 
   -- each leads to a visit, if it isn't cut
   pub are_inside : (count : ℕ) → length vs ≡ count → length targets ≡ length vs * m.choices → 0 < m.choices
-      → AreInside targets count
+      → LeadInside targets count
   are_inside count is long some e low =
       let first : e / m.choices < length vs = div_below e m.choices (length vs) some (omega arith) in
       let (u, at) = get-some vs (e / m.choices) first in
@@ -221,13 +221,14 @@ is_avoided m start z h label classes targets cut few j low cs walk some each x s
 pub is_settled : (m : Model) (start : List ℕ) (z : Search) → HasClosed m start z → (label classes targets : List ℕ)
     → AreCutEdges m (visits_of z) label m.choices targets → length (visits_of z) < 2 ^ 32
     → length targets ≡ length (visits_of z) * m.choices → 0 < m.choices → (columns : ℕ) (settled : Settled)
-    (said : Coming) → IsSettled targets classes columns m.choices (length (visits_of z)) settled
+    (said : Coming) → IsRankedOrLooped targets classes columns m.choices (length (visits_of z)) settled
     → IsSaidBy columns settled said → (x : m.State) → m.stands start x
     → ComingHolds m classes x label z.visits.items said
 is_settled m start z h label classes targets cut few count some columns (Ranked ranks helpers) (C.Within counts) passed
     (long, low) x stands =
     let falling : AreFalling m (visits_of z) label classes ranks.items helpers.items (length counts.items) =
-    rw long (are_falling m (visits_of z) label targets cut few classes ranks.items helpers.items columns count passed) in
+    rw long (are_falling m (visits_of z) label targets cut few classes ranks.items helpers.items columns count passed)
+    in
     let below : (j d : ℕ) → d < length counts.items → rank_at ranks.items (length counts.items) j d
     ≤ slice_index counts.items d = rw long low in
     must_come m start z h label classes ranks.items helpers.items counts.items some falling below x stands
@@ -235,20 +236,23 @@ is_settled m start z h label classes targets cut few count some columns (Ranked 
     passed said x stands = absurd said
 is_settled m start z h label classes targets cut few count some columns (Looped place choices) (C.Within counts) passed
     said x stands = absurd said
-is_settled m start z h label classes targets cut few count some columns (Looped place choices) (C.Avoided at over) passed
+is_settled m start z h label classes targets cut few count some columns (Looped place choices) (C.Avoided at over)
+    passed
     (is, same) x stands =
     let all = visit_count z h.searching.keyed in
     let inside = passed.inside in
     rw (is, same) (
       omega arith,
-      is_avoided m start z h label classes targets cut few place inside choices.items passed.walk passed.some passed.each
+      is_avoided m start z h label classes targets cut few place inside choices.items passed.walk passed.some
+          passed.each
           x stands,
     )
 
 pub said_after : {E : Type 0} (m : Model) (start : List ℕ) (z : Search) → HasClosed m start z
     → (label classes targets : List ℕ) → AreCutEdges m (visits_of z) label m.choices targets
     → length (visits_of z) < 2 ^ 32 → length targets ≡ length (visits_of z) * m.choices → 0 < m.choices
-    → (columns : ℕ) (settled : Settled) → IsSettled targets classes columns m.choices (length (visits_of z)) settled
+    → (columns : ℕ) (settled : Settled) → IsRankedOrLooped targets classes columns m.choices (length (visits_of z))
+    settled
     → (r : Result Coming E) → IfOk r (λ said. IsSaidBy columns settled said)
     → IfOk r (λ said. (x : m.State) → m.stands start x → ComingHolds m classes x label z.visits.items said)
 said_after m start z h label classes targets cut few count some columns settled passed (Ok said) by = λ x stands.

@@ -9,24 +9,25 @@ use Rattle.std.proofs.Math.ListN.{get_or-append}
 use Rattle.std.proofs.Math.Seq.{get_or-append_seam}
 use Rattle.std.proofs.lemmas.List.{drop_all, get_or_past, length-replicate, reverse-append}
 use Rattle.pip_search.specs.Comes.{HasEach, GoesDown, HasOneOf, IsWalk, PassesRanks, helpful, rank_at}
-use Rattle.pip_search.specs.Stages.{AreDone, AreInside, AreOrdered, AreStaged, AreWhole, GoRound, HasStep, IsBegun}
-use Rattle.pip_search.specs.Stages.{IsFairLoop, IsGoing, IsLeft, IsNearer, IsOwn, IsReached, IsRetired, IsRound}
-use Rattle.pip_search.specs.Stages.{IsServed, IsSwept, IsTaken}
-use Rattle.pip_search.specs.Stages.{IsSettled, IsStep, LeadsBack, Serve, Serves, class_of, stages_with, to_of, zeros}
+use Rattle.pip_search.specs.Stages.{AreDone, LeadInside, OrdersLead, AreStaged, AreWhole, GoRound, HasStep, IsBegun}
+use Rattle.pip_search.specs.Stages.{IsFairLoop, IsGoing, HasNoStage, IsNearer, IsOwn, AllHaveOrders, IsRetired, IsRound}
+use Rattle.pip_search.specs.Stages.{IsServed, IsSwept, AreRetired}
+use Rattle.pip_search.specs.Stages.{IsRankedOrLooped, IsStep, LeadsBack, Serve, Serves, class_of, stages_with, to_of}
+use Rattle.pip_search.specs.Stages.{zeros_in}
 use Rattle.pip_search.proofs.Places.{get-back, get-below, get-more, get-new}
 use Rattle.pip_search.proofs.Walking.{named_push}
 
 -- ---- how many are 0
 
 pub zeros_set : (xs : List ℕ) (j x : ℕ) → j < length xs → slice_index xs j ≡ 0 → 0 < x
-    → zeros xs ≡ suc (zeros (set xs j x))
-unfolding zeros
+    → zeros_in xs ≡ suc (zeros_in (set xs j x))
+unfolding zeros_in
 zeros_set [] j x low none some = absurd (omega arith)
 zeros_set (y ∷ xs) zero x low none some = grind arith
 zeros_set (y ∷ xs) (suc j) x low none some = let h = zeros_set xs j x (omega arith) none some in grind arith
 
-pub zeros_most : (xs : List ℕ) → zeros xs ≤ length xs
-unfolding zeros
+pub zeros_most : (xs : List ℕ) → zeros_in xs ≤ length xs
+unfolding zeros_in
 zeros_most [] = omega arith
 zeros_most (x ∷ xs) = let h = zeros_most xs in grind arith
 
@@ -54,7 +55,7 @@ written_back n new items same is = rw (drop_all (length new) items (omega arith)
     (take_whole new n (omega arith))
 
 pub none_ordered : (targets classes stages : List ℕ) (width goal : ℕ) (orders : List ℕ)
-    → ((j : ℕ) → slice_index orders j ≡ 0) → AreOrdered targets classes stages width goal orders
+    → ((j : ℕ) → slice_index orders j ≡ 0) → OrdersLead targets classes stages width goal orders
 none_ordered targets classes stages width goal orders none j some = absurd (let h = none j in omega arith)
 
 -- ---- one order more
@@ -82,9 +83,9 @@ module _ (targets classes stages : List ℕ) (width goal : ℕ) where
   }
 
   pub ordered_set : (orders : List ℕ) (i d : ℕ) → i < length orders → slice_index orders i ≡ 0
-      → AreOrdered targets classes stages width goal orders
+      → OrdersLead targets classes stages width goal orders
       → HasStep targets classes stages width goal orders d i
-      → AreOrdered targets classes stages width goal (set orders i d)
+      → OrdersLead targets classes stages width goal (set orders i d)
   ordered_set orders i d low none all new j some = elim (cases_eq j i) [
     | inl same ↦
         let is : slice_index (set orders i d) j ≡ d = rw same (get_or-set_same orders i d 0 low) in
@@ -107,8 +108,8 @@ module _ (targets classes stages : List ℕ) (width goal : ℕ) where
 
   -- one place was swept, and got its order
   pub swept_set : (orders : List ℕ) (i d : ℕ) → 0 < d → length orders ≡ length stages
-      → ((j : ℕ) → slice_index orders j < d + 1) → AreOrdered targets classes stages width goal orders
-      → IsLeft stages i → slice_index orders i ≡ 0 → HasStep targets classes stages width goal orders d i
+      → ((j : ℕ) → slice_index orders j < d + 1) → OrdersLead targets classes stages width goal orders
+      → HasNoStage stages i → slice_index orders i ≡ 0 → HasStep targets classes stages width goal orders d i
       → IsSwept targets classes stages width goal d i (i + 1) orders (set orders i d) true
   swept_set orders i d some count below ordered left none step =
       let low : i < length orders = let h = left.inside in omega arith in
@@ -125,8 +126,8 @@ module _ (targets classes stages : List ℕ) (width goal : ℕ) where
 
   -- or none
   pub swept_none : (orders : List ℕ) (i d : ℕ) → ((j : ℕ) → slice_index orders j < d + 1)
-      → AreOrdered targets classes stages width goal orders
-      → (IsLeft stages i → slice_index orders i ≡ 0 → (c : ℕ)
+      → OrdersLead targets classes stages width goal orders
+      → (HasNoStage stages i → slice_index orders i ≡ 0 → (c : ℕ)
       → IsStep targets classes stages width goal orders d i c → ⊥)
       → IsSwept targets classes stages width goal d i (i + 1) orders orders false
   swept_none orders i d below ordered done = record {
@@ -140,7 +141,7 @@ module _ (targets classes stages : List ℕ) (width goal : ℕ) where
   }
 
   pub swept_begin : (orders : List ℕ) (d : ℕ) → ((j : ℕ) → slice_index orders j < d)
-      → AreOrdered targets classes stages width goal orders
+      → OrdersLead targets classes stages width goal orders
       → IsSwept targets classes stages width goal d 0 0 orders orders false
   swept_begin orders d below ordered = record {
     count = refl;
@@ -183,8 +184,9 @@ module _ (targets classes stages : List ℕ) (width goal : ℕ) where
       }
 
   -- where orders are whole, a choice from a place without one leads to a place without one, and doesn't serve
-  pub whole_apart : (orders : List ℕ) (j c : ℕ) → AreWhole targets classes stages width goal orders → IsLeft stages j
-      → slice_index orders j ≡ 0 → c < width → IsLeft stages (to_of targets width j c)
+  pub whole_apart : (orders : List ℕ) (j c : ℕ) → AreWhole targets classes stages width goal orders → HasNoStage stages
+      j
+      → slice_index orders j ≡ 0 → c < width → HasNoStage stages (to_of targets width j c)
       → (slice_index orders (to_of targets width j c) ≡ 0) × (Serves classes goal c → ⊥)
   whole_apart orders j c w left none low to = (
     elim (cases_eq (slice_index orders (to_of targets width j c)) 0) [
@@ -202,7 +204,7 @@ module _ (targets classes stages : List ℕ) (width goal : ℕ) where
 
 module _ (orders : List ℕ) (stage : ℕ) where
   pub taken_set : (old : List ℕ) (i : ℕ) → 0 < stage → i < length old → slice_index old i ≡ 0
-      → slice_index orders i ≡ 0 → IsTaken orders stage i (i + 1) old (set old i stage) true
+      → slice_index orders i ≡ 0 → AreRetired orders stage i (i + 1) old (set old i stage) true
   taken_set old i some low none free =
       let falls = zeros_set old i stage low none some in
       record {
@@ -219,8 +221,8 @@ module _ (orders : List ℕ) (stage : ℕ) where
         none = λ e. absurd cc;
       }
 
-  pub taken_none : (old : List ℕ) (i : ℕ) → (IsLeft old i → 0 < slice_index orders i)
-      → IsTaken orders stage i (i + 1) old old false
+  pub taken_none : (old : List ℕ) (i : ℕ) → (HasNoStage old i → 0 < slice_index orders i)
+      → AreRetired orders stage i (i + 1) old old false
   taken_none old i some = record {
     count = refl;
     each = λ j from to. let is : j ≡ i = omega arith in rw is (inr (refl, some));
@@ -232,7 +234,7 @@ module _ (orders : List ℕ) (stage : ℕ) where
     none = λ e j from to. let is : j ≡ i = omega arith in rw is some;
   }
 
-  pub taken_begin : (old : List ℕ) → IsTaken orders stage 0 0 old old false
+  pub taken_begin : (old : List ℕ) → AreRetired orders stage 0 0 old old false
   taken_begin old = record {
     count = refl;
     each = λ j from to. absurd (omega arith);
@@ -260,15 +262,15 @@ module _ (orders : List ℕ) (stage : ℕ) where
   retired_to old mid new j same (inl now) = inl (now.0, (now.1.0, same ∙ now.1.1))
   retired_to old mid new j same (inr keeps) = inr (same ∙ keeps.0, keeps.1)
 
-  module _ (old mid new : List ℕ) (i : ℕ) (a b : Bool) (s : IsTaken orders stage 0 i old mid a)
-      (t : IsTaken orders stage i (i + 1) mid new b) where
+  module _ (old mid new : List ℕ) (i : ℕ) (a b : Bool) (s : AreRetired orders stage 0 i old mid a)
+      (t : AreRetired orders stage i (i + 1) mid new b) where
     taken_each : (j : ℕ) → 0 ≤ j → j < i + 1 → IsRetired old orders stage new j
     taken_each j from to = elim (cases_eq j i) [
       | inl same ↦ retired_from old mid new j s.count (s.rest j (omega arith)) (t.each j (omega arith) (omega arith))
       | inr other ↦ retired_to old mid new j (t.before j (omega arith)) (s.each j from (omega arith))
     ]
 
-    taken_left : a ≡ false → b ≡ false → (j : ℕ) → 0 ≤ j → j < i + 1 → IsLeft old j → 0 < slice_index orders j
+    taken_left : a ≡ false → b ≡ false → (j : ℕ) → 0 ≤ j → j < i + 1 → HasNoStage old j → 0 < slice_index orders j
     taken_left none same j from to left = elim (cases_eq j i) [
       | inl is ↦ t.none same j (omega arith) (omega arith) (record {
         inside = (let h = left.inside in let k = s.count in omega arith);
@@ -278,9 +280,9 @@ module _ (orders : List ℕ) (stage : ℕ) where
     ]
 
   -- the next place
-  pub taken_more : (old mid new : List ℕ) (i : ℕ) (a b : Bool) → IsTaken orders stage 0 i old mid a
-      → IsTaken orders stage i (i + 1) mid new b → (c : Bool) → (b ≡ true → c ≡ true) → (b ≡ false → c ≡ a)
-      → IsTaken orders stage 0 (i + 1) old new c
+  pub taken_more : (old mid new : List ℕ) (i : ℕ) (a b : Bool) → AreRetired orders stage 0 i old mid a
+      → AreRetired orders stage i (i + 1) mid new b → (c : Bool) → (b ≡ true → c ≡ true) → (b ≡ false → c ≡ a)
+      → AreRetired orders stage 0 (i + 1) old new c
   taken_more old mid new i a true s t c up stays = record {
     count = t.count ∙ s.count;
     each = taken_each old mid new i a true s t;
@@ -325,7 +327,7 @@ module _ (targets classes : List ℕ) (width count : ℕ) where
       → class_of classes (goals ++ goal ∷ []) (suc (length goals)) ≡ slice_index classes goal
   class_new goals goal = rw (get_or-append_seam goals goal [] 0)
 
-  module _ (old new goals orders : List ℕ) (goal : ℕ) (inside : AreInside targets count)
+  module _ (old new goals orders : List ℕ) (goal : ℕ) (inside : LeadInside targets count)
       (places : length targets ≡ count * width) (s : AreStaged targets classes old goals width count)
       (w : AreWhole targets classes old width goal orders) (long : length new ≡ length old)
       (each : (j : ℕ) → IsRetired old orders (suc (length goals)) new j) where
@@ -351,8 +353,8 @@ module _ (targets classes : List ℕ) (width count : ℕ) where
           | inr below ↦ below
         ]
 
-    fresh_left : (j c : ℕ) → IsLeft old j → slice_index orders j ≡ 0 → slice_index new j ≡ suc (length goals)
-        → c < width → IsLeft old (to_of targets width j c)
+    fresh_left : (j c : ℕ) → HasNoStage old j → slice_index orders j ≡ 0 → slice_index new j ≡ suc (length goals)
+        → c < width → HasNoStage old (to_of targets width j c)
         → LeadsBack classes (goals ++ goal ∷ []) new j c (to_of targets width j c)
     fresh_left j c left none is low to =
         let (apart, unserved) = whole_apart targets classes old width goal orders j c w left none low to in
@@ -375,7 +377,7 @@ module _ (targets classes : List ℕ) (width count : ℕ) where
           | inr keeps ↦ absurd (let some = keeps.1 to in omega arith)
         ]
 
-    fresh : (j c : ℕ) → IsLeft old j → slice_index orders j ≡ 0 → slice_index new j ≡ suc (length goals)
+    fresh : (j c : ℕ) → HasNoStage old j → slice_index orders j ≡ 0 → slice_index new j ≡ suc (length goals)
         → c < width → to_of targets width j c ≢ 0xffffffff
         → LeadsBack classes (goals ++ goal ∷ []) new j c (to_of targets width j c)
     fresh j c left none is low other =
@@ -397,7 +399,7 @@ module _ (targets classes : List ℕ) (width count : ℕ) where
         let here = same_stage j some in
         let there = same_stage k gone in
         let own : class_of classes (goals ++ goal ∷ []) (slice_index new j)
-            ≡ class_of classes goals (slice_index old j) =
+        ≡ class_of classes goals (slice_index old j) =
         rw here (class_more goals goal (slice_index old j) (s.within j)) in
         record {
           gone = omega arith;
@@ -412,7 +414,7 @@ module _ (targets classes : List ℕ) (width count : ℕ) where
         }
 
     -- a stage more
-    pub staged_more : zeros new < zeros old → AreStaged targets classes new (goals ++ goal ∷ []) width count
+    pub staged_more : zeros_in new < zeros_in old → AreStaged targets classes new (goals ++ goal ∷ []) width count
     staged_more less = record {
       count_is = long ∙ s.count_is;
       few = let h = s.few in omega (arith, length-append goals (goal ∷ []));
@@ -433,10 +435,10 @@ module _ (targets classes : List ℕ) (width count : ℕ) where
     }
 
   -- all places that a goal wants were taken
-  pub taken_all : (old new goals orders : List ℕ) (goal stage : ℕ) → AreInside targets count
+  pub taken_all : (old new goals orders : List ℕ) (goal stage : ℕ) → LeadInside targets count
       → length targets ≡ count * width → AreStaged targets classes old goals width count
       → AreWhole targets classes old width goal orders → stage ≡ suc (length goals)
-      → IsTaken orders stage 0 (length old) old new true
+      → AreRetired orders stage 0 (length old) old new true
       → AreStaged targets classes new (goals ++ goal ∷ []) width count
   taken_all old new goals orders goal stage inside places s w is t =
       staged_more old new goals orders goal inside places s w t.count
@@ -461,8 +463,8 @@ pushed_at xs y e low = elim (cases_eq e (length xs)) [
 
 pub reached_more : (targets classes stages : List ℕ) (width : ℕ) (all : List (List ℕ)) (orders : List ℕ) (n : ℕ)
     → length all ≡ n → ((g : ℕ) (o : List ℕ) → slice_get all g ≡ Some o
-    → IsReached targets classes stages width g o) → IsReached targets classes stages width n orders → (g : ℕ)
-    (o : List ℕ) → slice_get (all ++ orders ∷ []) g ≡ Some o → IsReached targets classes stages width g o
+    → AllHaveOrders targets classes stages width g o) → AllHaveOrders targets classes stages width n orders → (g : ℕ)
+    (o : List ℕ) → slice_get (all ++ orders ∷ []) g ≡ Some o → AllHaveOrders targets classes stages width g o
 reached_more targets classes stages width all orders n count h own g o e = elim (get-back all orders g o e) [
   | inl old ↦ h g o old
   | inr new ↦ rw (new.0, count, new.1) own
@@ -474,8 +476,8 @@ mapped_count f (x ∷ xs) = rw (mapped_count f xs)
 
 pub reached_push : {X : Type 0} (f : X → List ℕ) (targets classes stages : List ℕ) (width : ℕ) (xs ys : List X) (x : X)
     (n : ℕ) → ys ≡ xs ++ x ∷ [] → length xs ≡ n → ((g : ℕ) (o : List ℕ) → slice_get (map f xs) g ≡ Some o
-    → IsReached targets classes stages width g o) → IsReached targets classes stages width n (f x) → (g : ℕ)
-    (o : List ℕ) → slice_get (map f ys) g ≡ Some o → IsReached targets classes stages width g o
+    → AllHaveOrders targets classes stages width g o) → AllHaveOrders targets classes stages width n (f x) → (g : ℕ)
+    (o : List ℕ) → slice_get (map f ys) g ≡ Some o → AllHaveOrders targets classes stages width g o
 reached_push f targets classes stages width xs ys x n whole count h own g o e =
     let is : map f ys ≡ map f xs ++ f x ∷ [] = rw (whole, named_push f xs x) in
     reached_more targets classes stages width (map f xs) (f x) n (mapped_count f xs ∙ count) h own g o
@@ -531,7 +533,7 @@ module _ (targets classes : List ℕ) (width columns count : ℕ) (stages goals 
     helpful_is : (j t : ℕ) → j < count → slice_index stages j ≡ t → helpful classes helpers j ≡ class_of classes goals t
     helpful_is j zero low is = absurd (let h = gone j low in omega arith)
     helpful_is j (suc t) low is =
-      let h : slice_index helpers j ≡ slice_index goals t = helped j t low (omega arith) in rw h
+        let h : slice_index helpers j ≡ slice_index goals t = helped j t low (omega arith) in rw h
 
     rank_is : (j d t : ℕ) → j < count → d < columns → slice_index stages j ≡ t
         → rank_at ranks columns j d ≡ stages_with classes goals d t
@@ -563,7 +565,7 @@ module _ (targets classes : List ℕ) (width columns count : ℕ) (stages goals 
           ];
         }
 
-    pub stages_pass : AreInside targets count → (e : ℕ) → e < length targets
+    pub stages_pass : LeadInside targets count → (e : ℕ) → e < length targets
         → PassesRanks classes ranks helpers columns width targets e
     stages_pass inside e low =
         let j = e / width in
@@ -622,17 +624,18 @@ one_after classes (x ∷ old) more class h =
 module _ (targets classes stages : List ℕ) (width : ℕ) (places : length targets ≡ length stages * width)
     (few : length stages < 2 ^ 32) where
   -- a choice more, which leads to a place that is left
-  pub walk_on : (j i c k : ℕ) (more : List ℕ) → IsWalk targets width j (reverse more) i → IsLeft stages i → c < width
-      → to_of targets width i c ≡ k → IsLeft stages k → IsWalk targets width j (reverse (more ++ c ∷ [])) k
+  pub walk_on : (j i c k : ℕ) (more : List ℕ) → IsWalk targets width j (reverse more) i → HasNoStage stages i → c <
+      width
+      → to_of targets width i c ≡ k → HasNoStage stages k → IsWalk targets width j (reverse (more ++ c ∷ [])) k
   walk_on j i c k more walk from low is to =
       let within : i * width + c < width * length stages = mul-add-lt i width c (length stages) from.inside low in
       let below = to.inside in
       rw (reverse-append more (c ∷ [])) (i, (walk, (low, (omega arith, (is, λ e. absurd (omega arith))))))
 
   module _ (goal j i c k bound : ℕ) (orders old mid : List ℕ) (g : IsGoing targets width j i old mid)
-      (from : IsLeft stages i) (step : IsStep targets classes stages width goal orders bound i c)
+      (from : HasNoStage stages i) (step : IsStep targets classes stages width goal orders bound i c)
       (is : k ≡ to_of targets width i c) where
-    pub to_left : IsLeft stages k
+    pub to_left : HasNoStage stages k
     to_left = rw is step.to
 
     walk_to : IsWalk targets width j (reverse (g.more ++ c ∷ [])) k

@@ -14,12 +14,12 @@ abbrev pub to_of : List ℕ → ℕ → ℕ → ℕ → ℕ
 to_of targets width j c = slice_index targets (j * width + c)
 
 -- each choice is cut, or leads to one of the places
-abbrev pub AreInside : List ℕ → ℕ → Type 0
-AreInside targets count = (e : ℕ) → e < length targets
+abbrev pub LeadInside : List ℕ → ℕ → Type 0
+LeadInside targets count = (e : ℕ) → e < length targets
     → (slice_index targets e ≡ 0xffffffff) ⊎ (slice_index targets e < count)
 
 -- a place is left: it has no stage yet
-pub record IsLeft (stages : List ℕ) (j : ℕ) : Type 0 where
+pub record HasNoStage (stages : List ℕ) (j : ℕ) : Type 0 where
   pub inside : j < length stages
   pub none : slice_index stages j ≡ 0
 
@@ -35,7 +35,7 @@ pub record IsNearer (orders : List ℕ) (d k : ℕ) : Type 0 where
 -- choice c of place j leads to a place that is left, and serves a goal, or that place is nearer to it
 pub record IsStep (targets classes stages : List ℕ) (width goal : ℕ) (orders : List ℕ) (d j c : ℕ) : Type 0 where
   pub low : c < width
-  pub to : IsLeft stages (to_of targets width j c)
+  pub to : HasNoStage stages (to_of targets width j c)
   pub nearer : Serves classes goal c ⊎ IsNearer orders d (to_of targets width j c)
 
 -- a place has such a choice
@@ -44,24 +44,24 @@ pub record HasStep (targets classes stages : List ℕ) (width goal : ℕ) (order
   pub is : IsStep targets classes stages width goal orders d j choice
 
 -- each place with an order has a choice that leads nearer to the goal
-abbrev pub AreOrdered : List ℕ → List ℕ → List ℕ → ℕ → ℕ → List ℕ → Type 0
-AreOrdered targets classes stages width goal orders = (j : ℕ) → 0 < slice_index orders j
+abbrev pub OrdersLead : List ℕ → List ℕ → List ℕ → ℕ → ℕ → List ℕ → Type 0
+OrdersLead targets classes stages width goal orders = (j : ℕ) → 0 < slice_index orders j
     → HasStep targets classes stages width goal orders (slice_index orders j) j
 
 -- no choice leads to an order from a place that is left and has none
 abbrev pub AreDone : List ℕ → List ℕ → List ℕ → ℕ → ℕ → List ℕ → ℕ → ℕ → Type 0
-AreDone targets classes stages width goal orders d count = (j : ℕ) → j < count → IsLeft stages j
+AreDone targets classes stages width goal orders d count = (j : ℕ) → j < count → HasNoStage stages j
     → slice_index orders j ≡ 0 → (c : ℕ) → IsStep targets classes stages width goal orders d j c → ⊥
 
 -- all places that are left have an order
-pub record IsReached (targets classes stages : List ℕ) (width goal : ℕ) (orders : List ℕ) : Type 0 where
-  pub ordered : AreOrdered targets classes stages width goal orders
-  pub all : (j : ℕ) → IsLeft stages j → 0 < slice_index orders j
+pub record AllHaveOrders (targets classes stages : List ℕ) (width goal : ℕ) (orders : List ℕ) : Type 0 where
+  pub ordered : OrdersLead targets classes stages width goal orders
+  pub all : (j : ℕ) → HasNoStage stages j → 0 < slice_index orders j
 
 -- how many words are 0
-unfoldable pub zeros : List ℕ → ℕ
-zeros [] = 0
-zeros (x ∷ xs) = if x == 0 then suc (zeros xs) else zeros xs
+unfoldable pub zeros_in : List ℕ → ℕ
+zeros_in [] = 0
+zeros_in (x ∷ xs) = if x == 0 then suc (zeros_in xs) else zeros_in xs
 
 -- the class of the goal of a stage, from 1 on
 abbrev pub class_of : List ℕ → List ℕ → ℕ → ℕ
@@ -82,7 +82,7 @@ pub record LeadsBack (classes goals stages : List ℕ) (j c k : ℕ) : Type 0 wh
 -- so do all choices of the places that have stages, but for those that are cut
 pub record AreStaged (targets classes stages goals : List ℕ) (width count : ℕ) : Type 0 where
   pub count_is : length stages ≡ count
-  pub few : length goals + zeros stages ≤ count
+  pub few : length goals + zeros_in stages ≤ count
   pub within : (j : ℕ) → slice_index stages j ≤ length goals
   pub back : (j c : ℕ) → 0 < slice_index stages j → c < width
       → (to_of targets width j c ≡ 0xffffffff) ⊎ LeadsBack classes goals stages j c (to_of targets width j c)
@@ -95,31 +95,31 @@ pub record AreWhole (targets classes stages : List ℕ) (width goal : ℕ) (orde
 
 -- a place that is left and has no order gets this stage, and any other keeps its own
 abbrev pub IsRetired : List ℕ → List ℕ → ℕ → List ℕ → ℕ → Type 0
-IsRetired old orders stage new j = (IsLeft old j × ((slice_index orders j ≡ 0) × (slice_index new j ≡ stage)))
-    ⊎ ((slice_index new j ≡ slice_index old j) × (IsLeft old j → 0 < slice_index orders j))
+IsRetired old orders stage new j = (HasNoStage old j × ((slice_index orders j ≡ 0) × (slice_index new j ≡ stage)))
+    ⊎ ((slice_index new j ≡ slice_index old j) × (HasNoStage old j → 0 < slice_index orders j))
 
 -- places from one to another were swept: those that have a choice which leads nearer got this order, if some did
 pub record IsSwept (targets classes stages : List ℕ) (width goal order from end : ℕ) (old new : List ℕ) (some : Bool) :
     Type 0 where
   pub count : length new ≡ length old
-  pub ordered : AreOrdered targets classes stages width goal new
+  pub ordered : OrdersLead targets classes stages width goal new
   pub below : (j : ℕ) → slice_index new j < order + 1
-  pub most : zeros new ≤ zeros old
-  pub less : some ≡ true → zeros new < zeros old
+  pub most : zeros_in new ≤ zeros_in old
+  pub less : some ≡ true → zeros_in new < zeros_in old
   pub same : some ≡ false → new ≡ old
-  pub done : some ≡ false → (j : ℕ) → from ≤ j → j < end → IsLeft stages j → slice_index new j ≡ 0 → (c : ℕ)
+  pub done : some ≡ false → (j : ℕ) → from ≤ j → j < end → HasNoStage stages j → slice_index new j ≡ 0 → (c : ℕ)
       → IsStep targets classes stages width goal new order j c → ⊥
 
 -- places from one to another that are left and have no order got this stage, if some did
-pub record IsTaken (orders : List ℕ) (stage from end : ℕ) (old new : List ℕ) (some : Bool) : Type 0 where
+pub record AreRetired (orders : List ℕ) (stage from end : ℕ) (old new : List ℕ) (some : Bool) : Type 0 where
   pub count : length new ≡ length old
   pub each : (j : ℕ) → from ≤ j → j < end → IsRetired old orders stage new j
   pub before : (j : ℕ) → j < from → slice_index new j ≡ slice_index old j
   pub rest : (j : ℕ) → end ≤ j → slice_index new j ≡ slice_index old j
-  pub most : zeros new ≤ zeros old
-  pub less : some ≡ true → zeros new < zeros old
+  pub most : zeros_in new ≤ zeros_in old
+  pub less : some ≡ true → zeros_in new < zeros_in old
   pub same : some ≡ false → new ≡ old
-  pub none : some ≡ false → (j : ℕ) → from ≤ j → j < end → IsLeft old j → 0 < slice_index orders j
+  pub none : some ≡ false → (j : ℕ) → from ≤ j → j < end → HasNoStage old j → 0 < slice_index orders j
 
 -- how many of the first stages have a goal of a class
 abbrev pub stages_with : List ℕ → List ℕ → ℕ → ℕ → ℕ
@@ -171,10 +171,10 @@ pub record IsFairLoop (targets classes : List ℕ) (width count j : ℕ) (cs : L
   pub each : HasEach classes cs
 
 -- all choices of all places pass by ranks, or a loop is fair
-abbrev pub IsSettled : List ℕ → List ℕ → ℕ → ℕ → ℕ → Settled → Type 0
-IsSettled targets classes columns width count (Ranked ranks helpers) = (e : ℕ) → e < length targets
+abbrev pub IsRankedOrLooped : List ℕ → List ℕ → ℕ → ℕ → ℕ → Settled → Type 0
+IsRankedOrLooped targets classes columns width count (Ranked ranks helpers) = (e : ℕ) → e < length targets
     → PassesRanks classes ranks.items helpers.items columns width targets e
-IsSettled targets classes columns width count (Looped place choices) =
+IsRankedOrLooped targets classes columns width count (Looped place choices) =
     IsFairLoop targets classes width count place choices.items
 
 -- what is said of ranks or of a loop

@@ -3,9 +3,10 @@
 ghost use Rattle.std.specs.Prelude.{◌≡◌, ℕ, ◌<◌, ◌≤◌, ◌+◌, ◌*◌, ◌^◌, IfOk, IsTrue, MatchOption, None, Some, Vec};
 ghost use Rattle.std.specs.Prelude.{List, drop, false, length, map, slice_get, slice_index};
 ghost use Rattle.pip_search.specs.Comes.{rank_at};
-ghost use Rattle.pip_search.specs.Stages.{AreDone, AreInside, AreOrdered, AreStaged, AreWhole, GoRound, HasStep};
-ghost use Rattle.pip_search.specs.Stages.{IsFairLoop, IsLeft, IsNearer, IsReached, IsSettled, IsStep, IsSwept, IsTaken};
-ghost use Rattle.pip_search.specs.Stages.{Serve, Serves, stages_with, to_of, zeros};
+ghost use Rattle.pip_search.specs.Stages.{AreDone, LeadInside, OrdersLead, AreStaged, AreWhole, GoRound, HasStep};
+ghost use Rattle.pip_search.specs.Stages.{IsFairLoop, HasNoStage, IsNearer, AllHaveOrders, IsRankedOrLooped, IsStep};
+ghost use Rattle.pip_search.specs.Stages.{IsSwept, AreRetired};
+ghost use Rattle.pip_search.specs.Stages.{Serve, Serves, stages_with, to_of, zeros_in};
 
 use crate::coming::{cell_at, helpful_at, word_at};
 use std::alloc::{AllocError, Global};
@@ -37,8 +38,8 @@ fn number_at(numbers: &[u64], place: usize) -> u64
 
 // Whether a place has no stage.
 fn is_left(stages: &[u64], place: u32) -> bool
-    ensures left { IsTrue result → IsLeft stages.now place }
-    ensures gone { IsLeft stages.now place → IsTrue result }
+    ensures left { IsTrue result → HasNoStage stages.now place }
+    ensures gone { HasNoStage stages.now place → IsTrue result }
 {
     (place as usize) < stages.len() && stages[place as usize] == 0
 }
@@ -117,10 +118,10 @@ fn gains(
     bound: u64,
     place: u32,
 ) -> bool
-    ensures left { IsTrue result → IsLeft stages.now place }
+    ensures left { IsTrue result → HasNoStage stages.now place }
     ensures none { IsTrue result → slice_index orders.now place ≡ 0 }
     ensures step { IsTrue result → HasStep targets.now classes.now stages.now width goal orders.now bound place }
-    ensures no { result ≡ false → IsLeft stages.now place → slice_index orders.now place ≡ 0 → (c : ℕ)
+    ensures no { result ≡ false → HasNoStage stages.now place → slice_index orders.now place ≡ 0 → (c : ℕ)
         → IsStep targets.now classes.now stages.now width goal orders.now bound place c → ⊥ }
 {
     is_left(stages, place)
@@ -142,7 +143,7 @@ fn gain(
     requires some { 0 < order }
     requires count { length orders.old ≡ length stages.now }
     requires below { (j : ℕ) → slice_index orders.old j < order + 1 }
-    requires ordered { AreOrdered targets.now classes.now stages.now width goal orders.old }
+    requires ordered { OrdersLead targets.now classes.now stages.now width goal orders.old }
     ensures { IsSwept targets.now classes.now stages.now width goal order place (place + 1) orders.old orders.new
         result }
 {
@@ -167,7 +168,7 @@ fn sweep(
     requires few { length stages.now < 2 ^ 32 }
     requires count { length orders.old ≡ length stages.now }
     requires below { (j : ℕ) → slice_index orders.old j < order }
-    requires ordered { AreOrdered targets.now classes.now stages.now width goal orders.old }
+    requires ordered { OrdersLead targets.now classes.now stages.now width goal orders.old }
     ensures { IsSwept targets.now classes.now stages.now width goal order 0 (length stages.now) orders.old orders.new
         result }
 {
@@ -200,7 +201,7 @@ fn reach(
 ) -> Result<Vec<u64>, AllocError>
     requires few { length stages.now < 2 ^ 32 }
     ensures count { IfOk result (λ r. length r.items ≡ length stages.now) }
-    ensures ordered { IfOk result (λ r. AreOrdered targets.now classes.now stages.now width goal r.items) }
+    ensures ordered { IfOk result (λ r. OrdersLead targets.now classes.now stages.now width goal r.items) }
     ensures whole { IfOk result (λ r. AreWhole targets.now classes.now stages.now width goal r.items) }
 {
     let mut orders = vec![in alloc; 0u64; stages.len()]?;
@@ -225,7 +226,7 @@ fn reach(
 fn retire_at(stages: &mut [u64], orders: &[u64], stage: u64, place: usize) -> bool
     requires some { 0 < stage }
     requires low { place < length stages.old }
-    ensures { IsTaken orders.now stage place (place + 1) stages.old stages.new result }
+    ensures { AreRetired orders.now stage place (place + 1) stages.old stages.new result }
 {
     if stages[place] != 0 || number_at(orders, place) != 0 {
         return false;
@@ -237,7 +238,7 @@ fn retire_at(stages: &mut [u64], orders: &[u64], stage: u64, place: usize) -> bo
 // Gives a stage to the places that are left and have no order. False where there are none.
 fn retire(stages: &mut [u64], orders: &[u64], stage: u64) -> bool
     requires some { 0 < stage }
-    ensures { IsTaken orders.now stage 0 (length stages.old) stages.old stages.new result }
+    ensures { AreRetired orders.now stage 0 (length stages.old) stages.old stages.new result }
 {
     let mut some = false;
     for place in 0..stages.len() {
@@ -260,16 +261,16 @@ fn advance(
 ) -> Result<Option<Vec<Vec<u64>>>, AllocError>
     requires few { length stages.old < 2 ^ 32 }
     requires places { length targets.now ≡ length stages.old * width }
-    requires inside { AreInside targets.now (length stages.old) }
+    requires inside { LeadInside targets.now (length stages.old) }
     requires staged { AreStaged targets.now classes.now stages.old goals.old.items width
         (length stages.old) }
     ensures count { IfOk result (λ _. length stages.new ≡ length stages.old) }
     ensures staged { IfOk result (λ _. AreStaged targets.now classes.now stages.new goals.new.items width
         (length stages.old)) }
-    ensures less { IfOk result (λ r. r ≡ None → zeros stages.new < zeros stages.old) }
+    ensures less { IfOk result (λ r. r ≡ None → zeros_in stages.new < zeros_in stages.old) }
     ensures reached { IfOk result (λ r. (all : Vec (Vec ℕ Global) Global) → r ≡ Some all → (length all.items ≡ width)
         × ((goal : ℕ) (orders : List ℕ) → slice_get (map (λ v. v.items) all.items) goal ≡ Some orders
-        → IsReached targets.now classes.now stages.new width goal orders)) }
+        → AllHaveOrders targets.now classes.now stages.new width goal orders)) }
 {
     let mut all = Vec::new(alloc);
     for goal in 0..width {
@@ -296,9 +297,9 @@ fn go_on(
 ) -> Result<u32, AllocError>
     requires places { length targets.now ≡ length stages.now * width }
     requires few { length stages.now < 2 ^ 32 }
-    requires left { IsLeft stages.now place }
-    requires reached { IsReached targets.now classes.now stages.now width goal orders.now }
-    ensures left { IfOk result (λ r. IsLeft stages.now r) }
+    requires left { HasNoStage stages.now place }
+    requires reached { AllHaveOrders targets.now classes.now stages.now width goal orders.now }
+    ensures left { IfOk result (λ r. HasNoStage stages.now r) }
     ensures serve { IfOk result (λ r. Serve targets.now classes.now width goal place r choices.old.items
         choices.new.items) }
 {
@@ -332,11 +333,11 @@ fn go_round(
 ) -> Result<u32, AllocError>
     requires places { length targets.now ≡ length stages.now * width }
     requires few { length stages.now < 2 ^ 32 }
-    requires left { IsLeft stages.now place }
+    requires left { HasNoStage stages.now place }
     requires count { length all.now ≡ width }
     requires reached { (goal : ℕ) (orders : List ℕ) → slice_get (map (λ v. v.items) all.now) goal ≡ Some orders
-        → IsReached targets.now classes.now stages.now width goal orders }
-    ensures left { IfOk result (λ r. IsLeft stages.now r) }
+        → AllHaveOrders targets.now classes.now stages.now width goal orders }
+    ensures left { IfOk result (λ r. HasNoStage stages.now r) }
     ensures round { IfOk result (λ r. GoRound targets.now classes.now width width place r choices.old.items
         choices.new.items) }
 {
@@ -373,10 +374,10 @@ fn find_loop(
     requires few { length stages.now < 2 ^ 32 }
     requires some { 0 < width }
     requires classes { length classes.now ≤ width }
-    requires left { IsLeft stages.now place }
+    requires left { HasNoStage stages.now place }
     requires count { length all.now ≡ width }
     requires reached { (goal : ℕ) (orders : List ℕ) → slice_get (map (λ v. v.items) all.now) goal ≡ Some orders
-        → IsReached targets.now classes.now stages.now width goal orders }
+        → AllHaveOrders targets.now classes.now stages.now width goal orders }
     ensures { IfOk result (λ r. IsFairLoop targets.now classes.now width (length stages.now) r.0 r.1.items) }
 {
     let mut begun = vec![in alloc; 0u64; stages.len()]?;
@@ -461,7 +462,7 @@ fn helpers_of(alloc: Global, stages: &[u64], goals: &[u32]) -> Result<Vec<u32>, 
 fn first_left(stages: &[u64]) -> Option<u32>
     requires few { length stages.now < 2 ^ 32 }
     ensures { MatchOption result ((j : ℕ) → j < length stages.now → 0 < slice_index stages.now j)
-        (λ j. IsLeft stages.now j) }
+        (λ j. HasNoStage stages.now j) }
 {
     for place in 0..stages.len() {
         if stages[place] == 0 {
@@ -485,14 +486,14 @@ fn conclude(
     requires places { length targets.now ≡ length stages.now * width }
     requires few { length stages.now < 2 ^ 32 }
     requires some { 0 < width }
-    requires inside { AreInside targets.now (length stages.now) }
+    requires inside { LeadInside targets.now (length stages.now) }
     requires classes { length classes.now ≤ width }
     requires columns { (c : ℕ) → slice_index classes.now c < columns }
     requires staged { AreStaged targets.now classes.now stages.now goals.now width (length stages.now) }
     requires count { length all.now ≡ width }
     requires reached { (goal : ℕ) (orders : List ℕ) → slice_get (map (λ v. v.items) all.now) goal ≡ Some orders
-        → IsReached targets.now classes.now stages.now width goal orders }
-    ensures { IfOk result (λ r. IsSettled targets.now classes.now columns width (length stages.now) r) }
+        → AllHaveOrders targets.now classes.now stages.now width goal orders }
+    ensures { IfOk result (λ r. IsRankedOrLooped targets.now classes.now columns width (length stages.now) r) }
 {
     match first_left(stages) {
         Some(left) => {
@@ -520,11 +521,11 @@ fn settle_from(
     requires places { length targets.now ≡ length stages.old * width }
     requires few { length stages.old < 2 ^ 32 }
     requires some { 0 < width }
-    requires inside { AreInside targets.now (length stages.old) }
+    requires inside { LeadInside targets.now (length stages.old) }
     requires classes { length classes.now ≤ width }
     requires columns { (c : ℕ) → slice_index classes.now c < columns }
     requires staged { AreStaged targets.now classes.now stages.old goals.old.items width (length stages.old) }
-    ensures { IfOk result (λ r. IsSettled targets.now classes.now columns width (length stages.old) r) }
+    ensures { IfOk result (λ r. IsRankedOrLooped targets.now classes.now columns width (length stages.old) r) }
 {
     for _turn in 0..stages.len() + 1 {
         if let Some(all) = advance(alloc, targets, classes, width, stages, goals)? {
@@ -558,10 +559,10 @@ pub(crate) fn settle(
     requires places { length targets.now ≡ count * width }
     requires few { count < 2 ^ 32 }
     requires some { 0 < width }
-    requires inside { AreInside targets.now count }
+    requires inside { LeadInside targets.now count }
     requires classes { length classes.now ≤ width }
     requires columns { (c : ℕ) → slice_index classes.now c < columns }
-    ensures { IfOk result (λ r. IsSettled targets.now classes.now columns width count r) }
+    ensures { IfOk result (λ r. IsRankedOrLooped targets.now classes.now columns width count r) }
 {
     let mut stages = vec![in alloc; 0u64; count]?;
     let mut goals = Vec::new(alloc);

@@ -99,9 +99,9 @@ last_number [] = None
 last_number (space ∷ text) = number_of text
 
 -- a number that follows a space, and what follows it
-abbrev pub next_number : List ℕ → Option (ℕ × List ℕ)
-next_number [] = None
-next_number (space ∷ text) = option_map (λ n. (n, after_word text)) (number_of (first_word text))
+abbrev pub number_after : List ℕ → Option (ℕ × List ℕ)
+number_after [] = None
+number_after (space ∷ text) = option_map (λ n. (n, after_word text)) (number_of (first_word text))
 
 -- with one more, up to the end of the line
 abbrev pub with_last : Option (ℕ × List ℕ) → Option (ℕ × ℕ)
@@ -110,7 +110,7 @@ with_last (Some (n, rest)) = option_map (λ m. (n, m)) (last_number rest)
 
 -- the two numbers that follow a word
 abbrev pub two_numbers : List ℕ → Option (ℕ × ℕ)
-two_numbers rest = with_last (next_number rest)
+two_numbers rest = with_last (number_after rest)
 
 -- a word of a page
 abbrev pub seen_in : Option (ℕ × ℕ) → Option Freedom
@@ -137,7 +137,7 @@ row_at_page name (Some (at, rest)) = row_in name at (two_numbers rest)
 -- by the partition, and what follows it
 abbrev pub row_said : Option (ℕ × List ℕ) → Option Freedom
 row_said None = None
-row_said (Some (name, rest)) = row_at_page name (next_number rest)
+row_said (Some (name, rest)) = row_at_page name (number_after rest)
 
 -- what is left out or seen, by the word before it
 abbrev pub freedom_of : List ℕ → List ℕ → Option (Option Freedom)
@@ -146,7 +146,7 @@ freedom_of word rest =
     else if bytes_eq word (codes "free") then Some (option_map F.Page (last_number rest))
     else if bytes_eq word (codes "seen") then Some (seen_in (two_numbers rest))
     else if bytes_eq word (codes "entry") then Some (entry_in (two_numbers rest))
-    else if bytes_eq word (codes "row") then Some (row_said (next_number rest))
+    else if bytes_eq word (codes "row") then Some (row_said (number_after rest))
     else None
 
 -- what a line says that asks of no label: where its first word leaves something out, that, if it is one

@@ -14,7 +14,8 @@ after_running-rest-requires c =
     (s.first, (_, s.begins))
 
 pub loop-i-preserved : goal.loop-i-preserved
-loop-i-preserved c = pass_next c.args.words.now c.args.count c.loop-i._i c.loop-i.rest.now c.after_running-rest.result.now
+loop-i-preserved c = pass_next c.args.words.now c.args.count c.loop-i._i c.loop-i.rest.now
+    c.after_running-rest.result.now
     (omega arith) c.after_running-rest.ensures c.loop-i.invariant
 
 pub first_name-requires : goal.first_name-requires

@@ -2,7 +2,7 @@ use Rattle.std.proofs.Common.{◌≡◌, ℕ, ◌*◌, ◌^◌, ◌<◌, ◌≤�
 use Rattle.std.proofs.Common.{rules, ◌+◌, arith}
 use Rattle.pip_search.specs.Comes.{AreFalling, HasEach, PassesRanks, IsWalk, rank_at}
 use Rattle.pip_search.specs.Keys.{visits_of}
-use Rattle.pip_search.specs.Stages.{IsSettled}
+use Rattle.pip_search.specs.Stages.{IsRankedOrLooped}
 use Rattle.pip_search.proofs.Falling.{must_come}
 use Rattle.pip_search.proofs.Looping.{are_falling, are_inside, is_avoided, said_after}
 use Rattle.pip_search.proofs.Steps.{visit_count}
@@ -104,7 +104,8 @@ returns-clause-said g c =
     let few : length vs < 2 ^ 32 = omega arith in
     let count : length targets ≡ length vs * m.choices = rw (e.count, ← all) in
     let is : c.len-count.result ≡ length vs = omega arith in
-    let settled : IsSettled targets c.args.classes.now c.in-Some.columns m.choices (length vs) c.in_ok-settled.settled =
+    let settled : IsRankedOrLooped targets c.args.classes.now c.in-Some.columns m.choices (length vs)
+    c.in_ok-settled.settled =
     rw c.as_slice.ensures.value at (rw c.count-width.ensures at (rw is at c.in_ok-settled.ensures)) in
     said_after m c.args.start.now z c.requires.closed c.args.label.now c.args.classes.now targets e.cut few count
     c.requires.some c.in-Some.columns c.in_ok-settled.settled settled c.said_by.result c.said_by.ensures

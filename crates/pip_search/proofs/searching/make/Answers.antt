@@ -105,7 +105,8 @@ returns-clause-fresh g c =
     let words : unpacked_key key ≡ c.make.new.to.items = c.in_ok-room.ensures.back ∙ c.deref-2.ensures.value in
     let keyed = c.in_ok-room.ensures.keyed in
     fresh_now (visits_of s) (keyed_visits (keys_in next.store) next.visits.items) (length s.visits.items)
-    (length next.visits.items) key c.make.new.to.items c.args.i c.args.choice _ c.run_from.result c.newest-buffers.result
+    (length next.visits.items) key c.make.new.to.items c.args.i c.args.choice _ c.run_from.result
+    c.newest-buffers.result
     (visit_count s c.requires.searching.keyed) (keyed_count (keys_in next.store) next.visits.items keyed.count) words
     (λ l. let last = c.newest-buffers.ensures.more (omega arith) in omega arith)
     (λ l. c.newest-buffers.ensures.none (omega arith)) (c.in_ok-room.ensures.grew room)

@@ -1,6 +1,6 @@
 use Rattle.std.proofs.Common.{◌≡◌, ◌+◌, ◌++◌, ◌∷◌, [], length, map, slice_get, true, refl, ap, sym, subst, arith, ◌∙◌}
 use Rattle.std.proofs.Common.{length-append}
-use Rattle.pip_search.specs.Stages.{AreStaged, IsReached, IsTaken, zeros}
+use Rattle.pip_search.specs.Stages.{AreStaged, AllHaveOrders, AreRetired, zeros_in}
 use Rattle.pip_search.proofs.Staging.{none_got, reached_push, taken_all}
 use Rattle.pip_search.proofs.stages.advance.Goals as goal
 
@@ -23,7 +23,7 @@ loop-goal-preserved c =
     let taken = c.retire.ensures in
     let kept = taken.same c.if-retire.false in
     let items = c.in_ok-push-2.ensures.items in
-    let own : IsReached c.args.targets.now c.args.classes.now stages c.args.width n v.items = record {
+    let own : AllHaveOrders c.args.targets.now c.args.classes.now stages c.args.width n v.items = record {
       ordered = c.in_ok-orders.ensures.ordered;
       all = λ j left. rw c.as_slice.ensures.value at (taken.none c.if-retire.false j (omega arith) left.inside left);
     } in
@@ -46,8 +46,8 @@ returns-then-retire-clause-staged c =
     let stage = c.len.result + 1 in
     let staged : AreStaged c.args.targets.now c.args.classes.now stages goals c.args.width count =
     rw (h.same, h.goals) c.requires.staged in
-    let taken : IsTaken orders stage 0 (length stages) stages c.retire.new.stages true =
-    rw c.as_slice.ensures.value at (subst (λ b. IsTaken c.as_slice.result.now stage 0 (length stages) stages
+    let taken : AreRetired orders stage 0 (length stages) stages c.retire.new.stages true =
+    rw c.as_slice.ensures.value at (subst (λ b. AreRetired c.as_slice.result.now stage 0 (length stages) stages
     c.retire.new.stages b) c.if-retire.true c.retire.ensures) in
     rw c.in_ok-push.ensures.items (taken_all c.args.targets.now c.args.classes.now c.args.width count stages
     c.retire.new.stages goals orders c.loop-goal.goal stage c.requires.inside c.requires.places staged
@@ -56,7 +56,7 @@ returns-then-retire-clause-staged c =
 pub returns-then-retire-clause-less : goal.returns-then-retire-clause-less
 returns-then-retire-clause-less c = λ e.
     let less = c.retire.ensures.less c.if-retire.true in
-    let same = ap zeros c.loop-goal.invariant.same in
+    let same = ap zeros_in c.loop-goal.invariant.same in
     omega arith
 
 pub returns-clause-staged : goal.returns-clause-staged

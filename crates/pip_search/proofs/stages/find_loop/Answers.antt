@@ -67,6 +67,7 @@ returns-then-mark-gt0 c =
     let same : c.index-mark.result.now ≡ slice_index begun at =
     c.index-mark.ensures ∙ get_or_default begun at c.index-mark.result.now 0 low in
     let loop = c.in_ok-round.round.items in
-    let is : loop ≡ drop (slice_index begun at - 1) cs = rw (← same, ← c.as_slice.ensures.value) c.in_ok-round.ensures in
+    let is : loop ≡ drop (slice_index begun at - 1) cs = rw (← same, ← c.as_slice.ensures.value) c.in_ok-round.ensures
+    in
     fair_loop c.args.targets.now c.args.classes.now c.args.width (length c.args.stages.now) (slice_index begun at) at cs
     loop inside c.requires.some c.requires.classes (h.begun at (omega arith)) is

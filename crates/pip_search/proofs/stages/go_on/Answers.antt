@@ -1,5 +1,5 @@
 use Rattle.std.proofs.Common.{◌≡◌, ◌<◌, slice_index, refl, arith}
-use Rattle.pip_search.specs.Stages.{IsLeft}
+use Rattle.pip_search.specs.Stages.{HasNoStage}
 use Rattle.pip_search.proofs.Staging.{going_begin, going_down, going_more, going_serves, to_left}
 use Rattle.pip_search.proofs.stages.go_on.Goals as goal
 

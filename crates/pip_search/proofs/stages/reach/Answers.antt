@@ -1,5 +1,5 @@
 use Rattle.std.proofs.Common.{ap, length, arith}
-use Rattle.pip_search.specs.Stages.{zeros}
+use Rattle.pip_search.specs.Stages.{zeros_in}
 use Rattle.pip_search.proofs.Staging.{all_zero, none_ordered, written_back, zero_length, zeros_most}
 use Rattle.pip_search.proofs.stages.reach.Goals as goal
 
@@ -12,7 +12,8 @@ loop-order-init c =
     let long = zero_length orders _ (length c.args.stages.now) zeros_are (omega arith) in
     record {
       count = long;
-      ordered = none_ordered c.args.targets.now c.args.classes.now c.args.stages.now c.args.width c.args.goal orders none;
+      ordered = none_ordered c.args.targets.now c.args.classes.now c.args.stages.now c.args.width c.args.goal orders
+          none;
       below = λ j. let h = none j in omega arith;
       falls = omega arith;
     }
@@ -23,7 +24,7 @@ loop-order-preserved c =
     let own = c.sweep.ensures in
     let count = own.count in
     let less = own.less c.if-not-sweep.false in
-    let value = ap zeros c.as_mut_slice.ensures.value in
+    let value = ap zeros_in c.as_mut_slice.ensures.value in
     let long = ap length c.as_mut_slice.ensures.value in
     rw (written_back c.loop-order.orders.len c.sweep.new.orders c.loop-order.orders.items (omega arith) (omega arith))
     (record {

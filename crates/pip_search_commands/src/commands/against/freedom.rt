@@ -1,8 +1,8 @@
 //! A line of a menu that says which words are left out.
 ghost use Rattle.std.specs.Prelude.{◌≡◌, option_map};
-ghost use Rattle.pip_search_commands.specs.MenuText.{freedom_of, last_number, next_number, row_said, two_numbers};
+ghost use Rattle.pip_search_commands.specs.MenuText.{freedom_of, last_number, number_after, row_said, two_numbers};
 
-use pip_away::{Entry, OwnRow, PageWord};
+use pip_away::{OwnRow, PageWord, TableEntry};
 use pip_script::{read_number, split_word};
 
 /// What is left out of what others may read, or isn't.
@@ -15,7 +15,7 @@ pub enum Freedom {
     /// But for this word, whose index is below 1024: `seen`.
     Seen { word: PageWord },
     /// And of this entry the class is seen: `entry`.
-    Entry { entry: Entry },
+    Entry { entry: TableEntry },
     /// By this row and those of the same partition: `row`.
     Row { row: OwnRow },
 }
@@ -48,7 +48,7 @@ pub fn read_freedom(word: &[u8], rest: &[u8]) -> Option<Option<Freedom>>
     if word == b"entry".as_slice() {
         return Some(match read_two(rest) {
             Some((name, vector)) => Some(Freedom::Entry {
-                entry: Entry { name, vector },
+                entry: TableEntry { name, vector },
             }),
             None => None,
         });
@@ -71,7 +71,7 @@ fn read_last(rest: &[u8]) -> Option<u32>
 
 // The number that follows a space, and what follows it.
 fn read_next(rest: &[u8]) -> Option<(u32, &[u8])>
-    ensures { option_map (λ r. (r.0, r.1.now)) result ≡ next_number rest.now }
+    ensures { option_map (λ r. (r.0, r.1.now)) result ≡ number_after rest.now }
 {
     let [_, text @ ..] = rest else {
         return None;
@@ -92,7 +92,7 @@ fn read_two(rest: &[u8]) -> Option<(u32, u32)>
 
 // The row that four numbers say.
 fn read_row(rest: &[u8]) -> Option<Freedom>
-    ensures { result ≡ row_said (next_number rest.now) }
+    ensures { result ≡ row_said (number_after rest.now) }
 {
     let (name, rest) = read_next(rest)?;
     let (at, rest) = read_next(rest)?;
