@@ -339,7 +339,7 @@ def told(found: Answer) -> list[str]:
     return [f"yes: {programs_of(found.out)}: no line comes but {len(found.search.lines)}, in {end[1]} states"]
 
 
-class Row(NamedTuple):
+class Finding(NamedTuple):
     """A line of a report: what is asked, what is answered, and by which contract, or why nothing is."""
 
     what: str
@@ -352,23 +352,23 @@ def report(program: str, asked: Asked, found: Answer) -> list[str]:
     proved = "unproved" if program == calling.UNPROVED else "proved"
     is_closed = found.search.last.endswith("closed")
     of_menu = "" if is_closed else "the search didn't close"
-    rows = [Row("closed", f"{'yes' if is_closed else 'no'}, {found.search.last}", f"{proved}, ClosedNamesMenus"),
-            Row("every program", told(found)[0],
+    rows = [Finding("closed", f"{'yes' if is_closed else 'no'}, {found.search.last}", f"{proved}, ClosedNamesMenus"),
+            Finding("every program", told(found)[0],
                 "nothing is proved of every program" if found.why else f"{proved}, AwayTextsNamePrograms"),
             *lines_of(found.search, proved, of_menu), *turns_of(program, asked, found, proved, of_menu),
             longest(asked, found, proved)]
     return [f"{row.what:<16}{row.answer}    # {row.by}" for row in rows]
 
 
-def lines_of(search: Search, proved: str, of_menu: str) -> Iterator[Row]:
+def lines_of(search: Search, proved: str, of_menu: str) -> Iterator[Finding]:
     parks = [line for line in search.lines if line.text.startswith(f"park {ROOT} ")]
-    yield Row("root parks", f"yes: {parks[0].way}" if parks else "never", of_menu or f"{proved}, ClosedNamesMenus")
+    yield Finding("root parks", f"yes: {parks[0].way}" if parks else "never", of_menu or f"{proved}, ClosedNamesMenus")
     refused = {line.text for line in search.lines
                if meanings.outcome_of(line.text)[1][0] == "reply" and line.is_trouble}
-    yield Row("refused calls", ", ".join(sorted(refused)) or "none", of_menu or f"{proved}, ClosedNamesMenus")
+    yield Finding("refused calls", ", ".join(sorted(refused)) or "none", of_menu or f"{proved}, ClosedNamesMenus")
 
 
-def turns_of(program: str, asked: Asked, found: Answer, proved: str, of_menu: str) -> Iterator[Row]:
+def turns_of(program: str, asked: Asked, found: Answer, proved: str, of_menu: str) -> Iterator[Finding]:
     """Whether the turn of each partition comes, which waits in its own turns, whatever the programs of the others."""
     switches = [(line, int(at[1]), int(at[2]), int(at[3])) for line in found.search.lines
                 if (at := SWITCH.fullmatch(line.text))]
@@ -378,22 +378,22 @@ def turns_of(program: str, asked: Asked, found: Answer, proved: str, of_menu: st
         label = next((f"{line.cpu} {line.text}" for line, source, target, _ in switches
                       if target == name != source), "")
         if not label:
-            yield Row(f"turn of {name}", "it has none", of_menu or f"{proved}, ClosedNamesMenus")
+            yield Finding(f"turn of {name}", "it has none", of_menu or f"{proved}, ClosedNamesMenus")
             continue
         others = [line for other in own if other != name for line in found.out.exits(other, yields)]
         lines = [*others, f"{name} ld {HANDLERS:#010x}", f"comes {label}"]
         if len(lines) > against.MOST_DEEDS:
-            yield Row(f"turn of {name}", "unknown", f"a menu has {against.MOST_DEEDS} deeds at most")
+            yield Finding(f"turn of {name}", "unknown", f"a menu has {against.MOST_DEEDS} deeds at most")
             continue
         said = searched(program, asked, lines).again[-1].removeprefix(f"comes {label}: ")
         law = "YesComes" if said.startswith("within") else "NoIsAvoided"
-        yield Row(f"turn of {name}", said, f"{proved}, {law}" if said != "unknown" else "the search didn't close")
+        yield Finding(f"turn of {name}", said, f"{proved}, {law}" if said != "unknown" else "the search didn't close")
 
 
-def longest(asked: Asked, found: Answer, proved: str) -> Row:
+def longest(asked: Asked, found: Answer, proved: str) -> Finding:
     """The bound of the longest turn: a poll, a fetch, and one event more (docs/GUARANTEES.md)."""
     depth, frames = found.out.depth, images.read(asked.data).frames
     calls = {int(call[1]) for call in (CALL.match(line.text) for line in found.search.lines) if call}
     bounds = {0: 35 * depth + 55, 1: 7 * frames * frames, 3: 28 * depth + 74, 4: 28 * depth + 106 + frames, 8: 88}
     most = max([8 * depth + 80, *(bounds.get(call, 34) for call in calls)])
-    return Row("longest turn", f"{190 + 8 * depth + 80 + most} reads of frames at most", f"{proved}, law_work")
+    return Finding("longest turn", f"{190 + 8 * depth + 80 + most} reads of frames at most", f"{proved}, law_work")

@@ -3,7 +3,7 @@
 ghost use Rattle.std.specs.Prelude.{◌≡◌, ℕ, ◌<◌, ◌≤◌, ◌+◌, ◌*◌, ◌^◌, IfOk, IsTrue, MatchOption, None, Some, Vec};
 ghost use Rattle.std.specs.Prelude.{List, drop, false, length, map, slice_get, slice_index};
 ghost use Rattle.pip_search.specs.Comes.{rank_at};
-ghost use Rattle.pip_search.specs.Stages.{AreDone, LeadInside, OrdersLead, AreStaged, AreWhole, GoRound, HasStep};
+ghost use Rattle.pip_search.specs.Stages.{LeadInside, OrdersLead, AreStaged, AreWhole, GoRound, HasStep};
 ghost use Rattle.pip_search.specs.Stages.{IsFairLoop, HasNoStage, IsNearer, AllHaveOrders, IsRankedOrLooped, IsStep};
 ghost use Rattle.pip_search.specs.Stages.{IsSwept, AreRetired};
 ghost use Rattle.pip_search.specs.Stages.{Serve, Serves, stages_with, to_of, zeros_in};
