@@ -110,9 +110,13 @@ rows_are t (r ∷ rs) [] e = cc
 rows_are t (r ∷ rs) (s ∷ ss) e =
     let (one, rest) = both _ _ e in
     let (same, shown) = fitting t r s one in
-    let (others, all) = rows_are t rs ss rest in
-    (rw (same, others), λ q i. elim i [ inl d ↦ subst (λ r. (hidden t r.frame || 0 == r.frame) ≡ false) (sym d) shown
-    | inr j ↦ all q j ])
+    let (others, all) = rows_are t rs ss rest in (
+      rw (same, others),
+      λ q i. elim i [
+        | inl d ↦ subst (λ r. (hidden t r.frame || 0 == r.frame) ≡ false) (sym d) shown
+        | inr j ↦ all q j
+      ],
+    )
 
 module _ (t : Tree) (p : ℕ) (rows : List Row) (fit : fits_rows t p rows ≡ true) where
   own_rows : (node t p).rows ≡ rows
