@@ -10,6 +10,7 @@ end is the program's, from one search with the menu that came out of this.
 from __future__ import annotations
 
 import copy
+import itertools
 import re
 from collections.abc import Iterable, Iterator
 from typing import NamedTuple
@@ -19,6 +20,7 @@ from common.calling import Failed
 from common.machine import against, image as images, runs
 from common.machine.model import (HANDLERS, LAST_BLOCK, LOAD, NOWHERE, PAGE, ROOT, SAVED, WRITE, Context, Fault, Node,
                                   Row, Tree, World)
+from common.machine.script import BadLine
 from debugger import searching, sources
 from debugger.searching import AWAY, END, Asked, Search
 from . import ways
@@ -97,9 +99,12 @@ class LeftOut:
 
     def classes(self, name: int, values: set[int]) -> dict[int, int]:
         """A word of each class that the menu has for an entry: one that it had, so that few states come of it."""
-        addresses = (vpage * PAGE + at for vpage in self.rows[name] for at in range(0, LAST_BLOCK + 1, 4))
+        rows = self.rows[name].items()
+        unsaved = [vpage * PAGE for vpage, row in rows if not row.rights & WRITE]
+        saved = (word for vpage, row in rows if row.rights & WRITE
+                 for word in range(vpage * PAGE, vpage * PAGE + LAST_BLOCK + 1, 4) if self.class_of(name, word) == 2)
         found: dict[int, int] = {}
-        for word in [0, *sorted(values), *addresses]:
+        for word in [0, *sorted(values), *unsaved[:1], *itertools.islice(saved, 1)]:
             if (kind := self.class_of(name, word)) < 3:
                 found.setdefault(kind, word)
         return {**found, **{self.class_of(name, word): word for word in values if self.class_of(name, word) > 2}}
@@ -236,7 +241,10 @@ def answer(program: str, asked: Asked, names: sources.Source) -> Answer:
     out.own.add(ROOT + 1)                        # no partition has this name: so it is asked from the first round on
     for _ in range(MOST_ROUNDS):
         lines = out.menu()
-        menu = against.menu_of(text_of(lines)).deeds
+        try:
+            menu = against.menu_of(text_of(lines)).deeds
+        except BadLine:
+            raise Failed("these partitions have more exits, pages or rows than a menu may have") from None
         search = searched(program, asked, lines)
         said = next(filter(None, map(AWAY.fullmatch, search.again)))
         if said[1] == "unknown":
